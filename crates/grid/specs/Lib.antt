@@ -1,0 +1,3 @@
+-- The definitions of the grid and their laws.
+pub mod Grid
+pub mod GridLaws
