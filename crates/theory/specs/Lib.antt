@@ -1,5 +1,6 @@
 -- The mathematics: what a problem is, what first fit does, which orders there are, what the walk over them counts.
 pub mod Problem
+pub mod Arrange
 pub mod Orders
 pub mod Walk
 pub mod Search
