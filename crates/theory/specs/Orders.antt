@@ -24,3 +24,13 @@ ordersOf (suc n) todo = spread (ordersOf n) [] todo
 unfoldable pub orders : List ℕ → List (List ℕ)
 unfolding ordersOf
 orders todo = ordersOf (length todo) todo
+
+-- n numbers counted up from k
+unfoldable pub countUp : ℕ → ℕ → List ℕ
+countUp zero k = []
+countUp (suc n) k = k ∷ countUp n (suc k)
+
+-- the listing positions of K demands: 0, 1, .. in listing order
+unfoldable pub listing : ℕ → List ℕ
+unfolding countUp
+listing K = countUp K 0

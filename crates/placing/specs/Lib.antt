@@ -1,0 +1,2 @@
+-- A request as a problem of placing, and its bound.
+pub mod Placing

@@ -1,0 +1,2 @@
+// Placing: which demands meet, the bound, the lowest start, first fit.
+pub fn nothing() {}

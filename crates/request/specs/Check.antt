@@ -1,0 +1,104 @@
+-- The test of a request in memory, in the order of its checks.
+use Prim.Native.Nat.{ℕ, _+_}
+use mathlib.Core.Bool.{Bool, true, false, cond, not, _&&_, _||_}
+use mathlib.Core.List.{List, [], _∷_, _++_}
+use lib.ListN.{length}
+use lib.Dec.{leb, ltb, eqb}
+use Rattle.refusal.specs.declared.Refusal.the-variants.{WrongTag, WrongLength, BandOutside, BadLink, TooManyDemands, BadRoute, IdentUsed, BadWidth}
+use Rattle.grid.specs.declared.Band.{Band}
+use Rattle.grid.specs.Grid.{allowedBand}
+use Rattle.request.specs.declared.Link.{Link}
+use Rattle.request.specs.declared.Checked.{Checked}
+use Rattle.request.specs.declared.Checked.the-variants.{Sound, Refused}
+use Rattle.request.specs.View.{DemandView, View, linkAt}
+
+-- a check, and where it passes the next
+unfoldable pub then : Checked → Checked → Checked
+then Sound next = next
+then (Refused why) next = Refused why
+
+-- a number stands in a list
+unfoldable pub has : ℕ → List ℕ → Bool
+has x [] = false
+has x (y ∷ ys) = eqb x y || has x ys
+
+-- each link of a route is one of the n listed
+unfoldable pub listed : ℕ → List ℕ → Bool
+listed n [] = true
+listed n (a ∷ route) = ltb a n && listed n route
+
+-- no link stands twice in a route
+unfoldable pub once : List ℕ → Bool
+unfolding has
+once [] = true
+once (a ∷ route) = not (has a route) && once route
+
+-- each link begins at the node where the one before ends
+unfoldable pub unbroken : List Link → List ℕ → Bool
+unfolding linkAt
+unbroken links [] = true
+unbroken links (a ∷ []) = true
+unbroken links (a ∷ b ∷ route) =
+    eqb (linkAt links a .to) (linkAt links b .from) && unbroken links (b ∷ route)
+
+-- a route is sound: only listed links, none twice, no break
+unfoldable pub soundRoute : List Link → List ℕ → Bool
+unfolding listed once unbroken
+soundRoute links route = listed (length links) route && (once route && unbroken links route)
+
+-- a width is allowed from 1 to S
+unfoldable pub allowedWidth : ℕ → ℕ → Bool
+allowedWidth S w = leb 1 w && leb w S
+
+-- a route has 1 to 32 links
+unfoldable pub allowedHops : ℕ → Bool
+allowedHops hops = leb 1 hops && leb hops 32
+
+-- 4 at place 0: the band
+unfoldable pub checkBand : Band → Checked
+checkBand band = cond (allowedBand band) Sound (Refused (BandOutside 0))
+
+-- 2 at place 0: no link
+unfoldable pub checkSomeLink : ℕ → Checked
+checkSomeLink count = cond (eqb count 0) (Refused (WrongTag 0)) Sound
+
+-- 5 at a link from a node to itself, the links one by one
+unfoldable pub checkLinks : ℕ → List Link → Checked
+unfolding then
+checkLinks k [] = Sound
+checkLinks k (l ∷ links) = then (cond (eqb (l .from) (l .to)) (Refused (BadLink k)) Sound) (checkLinks (k + 1) links)
+
+-- 5 at the 65th link
+unfoldable pub checkLinkCount : ℕ → Checked
+checkLinkCount count = cond (ltb 64 count) (Refused (BadLink 64)) Sound
+
+-- one demand at its listing position, after demands of these idents: 8, 9, 3, 7
+unfoldable pub checkDemand : ℕ → List Link → List ℕ → ℕ → DemandView → Checked
+unfolding then has allowedWidth allowedHops soundRoute
+checkDemand S links earlier k d =
+    then (cond (has (d .ident) earlier) (Refused (IdentUsed k)) Sound)
+    (then (cond (allowedWidth S (d .width)) Sound (Refused (BadWidth k)))
+    (then (cond (allowedHops (d .hops)) Sound (Refused (WrongLength k)))
+    (cond (soundRoute links (d .route)) Sound (Refused (BadRoute k)))))
+
+-- the demands one by one
+unfoldable pub checkDemands : ℕ → List Link → List ℕ → ℕ → List DemandView → Checked
+unfolding then checkDemand
+checkDemands S links earlier k [] = Sound
+checkDemands S links earlier k (d ∷ demands) =
+    then (checkDemand S links earlier k d) (checkDemands S links (earlier ++ (d .ident ∷ [])) (k + 1) demands)
+
+-- 6 at the 201st demand
+unfoldable pub checkDemandCount : ℕ → Checked
+checkDemandCount count = cond (ltb 200 count) (Refused (TooManyDemands 200)) Sound
+
+-- the whole test: the band, the links, the demands
+unfoldable pub check : View → Checked
+unfolding then checkBand checkSomeLink checkLinks checkLinkCount checkDemands checkDemandCount
+check v =
+    then (checkBand (v .band))
+    (then (checkSomeLink (v .linkCount))
+    (then (checkLinks 0 (v .links))
+    (then (checkLinkCount (v .linkCount))
+    (then (checkDemands (v .band .slots) (v .links) [] 0 (v .demands))
+    (checkDemandCount (v .demandCount))))))

@@ -1,0 +1,5 @@
+-- What a request is, when it is sound, and what it is as a file.
+pub mod View
+pub mod Check
+pub mod Sound
+pub mod Encoding

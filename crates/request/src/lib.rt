@@ -1,0 +1,41 @@
+// Requests: a band, its links and the demands on them.
+use grid::Band;
+use refusal::Refusal;
+
+// A directed link from one node to another.
+pub struct Link {
+    pub from: u8,
+    pub to: u8,
+}
+
+// A circuit asked for: its own number, its width in slots, and its route: the first `hops` entries of `links`, each a link's
+// number. Entries behind `hops` mean nothing.
+pub struct Demand {
+    pub ident: u16,
+    pub width: u16,
+    pub hops: usize,
+    pub links: [u8; 32],
+}
+
+// A request. It goes by value, so that every call has one parameter for it. Entries behind a count mean nothing.
+pub struct Request {
+    pub band: Band,
+    pub link_count: usize,
+    pub links: [Link; 64],
+    pub demand_count: usize,
+    pub demands: [Demand; 200],
+}
+
+// Whether a request is sound, or why it is refused.
+pub enum Checked {
+    Sound,
+    Refused(Refusal),
+}
+
+impl Request {
+    pub const MOST_LINKS: usize = 64;
+
+    pub const MOST_DEMANDS: usize = 200;
+
+    pub const MOST_HOPS: usize = 32;
+}
