@@ -2,5 +2,7 @@
 pub mod Problem
 pub mod Arrange
 pub mod Orders
+pub mod Earlier
+pub mod OrdersLaws
 pub mod Walk
 pub mod Search
