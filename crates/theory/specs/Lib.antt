@@ -5,4 +5,5 @@ pub mod Orders
 pub mod Earlier
 pub mod OrdersLaws
 pub mod Walk
+pub mod WalkBranchLaws
 pub mod Search
