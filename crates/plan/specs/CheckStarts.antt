@@ -1,0 +1,44 @@
+-- The check of starts in memory, in the order of its checks.
+use Prim.Native.Nat.{ℕ, _+_}
+use mathlib.Core.Bool.{Bool, true, false, cond, not, _&&_}
+use mathlib.Core.List.{List, [], _∷_, _++_}
+use lib.ListN.{length}
+use lib.Dec.{leb, ltb}
+use Rattle.refusal.specs.declared.Refusal.the-variants.{NoRow, EndAbove, Clash}
+use Rattle.theory.specs.Problem.{Problem, Row, apart, fits}
+use Rattle.request.specs.declared.Checked.{Checked}
+use Rattle.request.specs.declared.Checked.the-variants.{Sound, Refused}
+use Rattle.request.specs.View.{DemandView, View}
+use Rattle.request.specs.Check.{check, then}
+use Rattle.placing.specs.Placing.{problemOf}
+use Rattle.plan.specs.Plan.{startAt}
+
+-- 16, at how many starts there are: fewer than K
+unfoldable pub checkCount : ℕ → List ℕ → Checked
+checkCount K starts = cond (ltb (length starts) K) (Refused (NoRow (length starts))) Sound
+
+-- 17 at the lowest listing position whose end is above S
+unfoldable pub checkEnds : ℕ → List ℕ → ℕ → List DemandView → Checked
+unfolding then startAt
+checkEnds S starts k [] = Sound
+checkEnds S starts k (d ∷ demands) =
+    then (cond (ltb S (startAt starts k + d .width)) (Refused (EndAbove k)) Sound) (checkEnds S starts (k + 1) demands)
+
+-- 18 at the lowest listing position that clashes with an earlier one; the rows are the demands before it
+unfoldable pub checkClashes : Problem → List ℕ → List Row → ℕ → List DemandView → Checked
+unfolding then startAt fits
+checkClashes P starts rows k [] = Sound
+checkClashes P starts rows k (d ∷ demands) =
+    then (cond (fits P rows k (startAt starts k)) Sound (Refused (Clash k)))
+    (checkClashes P starts (record { who = k; at = startAt starts k } ∷ rows) (k + 1) demands)
+
+-- 17, then 18, of as many starts as there are demands
+unfoldable pub checkPlaces : View → List ℕ → Checked
+unfolding then checkEnds checkClashes
+checkPlaces v starts =
+    then (checkEnds (v .band .slots) starts 0 (v .demands)) (checkClashes (problemOf v) starts [] 0 (v .demands))
+
+-- the whole check: the request, 16, 17, 18
+unfoldable pub checkStarts : View → List ℕ → Checked
+unfolding then check checkCount checkPlaces
+checkStarts v starts = then (check v) (then (checkCount (v .demandCount) starts) (checkPlaces v starts))

@@ -1,0 +1,2 @@
+// Plans: starts checked, plan files read and written.
+pub fn nothing() {}
