@@ -1,6 +1,10 @@
 -- The mathematics: what a problem is, what first fit does, which orders there are, what the walk over them counts.
 pub mod Problem
 pub mod Arrange
+pub mod ArrangeLaws
+pub mod TestLaws
+pub mod ApartLaws
+pub mod ProblemLaws
 pub mod Orders
 pub mod Earlier
 pub mod OrdersLaws
