@@ -1,6 +1,6 @@
 -- What it is to be an order of a list: every element of the list, each as often as it stands there, in some sequence.
 use Prim.Native.Nat.{ℕ}
-use mathlib.Core.List.{List, [], _∷_, _++_, List·Memᴰ}
+use mathlib.Core.List.{List, [], _∷_, _++_}
 use mathlib.Core.Path.{_≡_}
 
 -- an order is an order of a list when its first element stands somewhere in the list, and the rest is an order of all the others
@@ -8,8 +8,3 @@ unfoldable pub Arrange : List ℕ → List ℕ → Type 0
 Arrange [] todo = todo ≡ []
 Arrange (i ∷ order) todo =
     (before : List ℕ) × (after : List ℕ) × (todo ≡ before ++ (i ∷ after)) × Arrange order (before ++ after)
-
--- no element stands twice in a list
-unfoldable pub NoRepeat : List ℕ → Type 0
-NoRepeat [] = Unit {0}
-NoRepeat (i ∷ list) = (List·Memᴰ i list → ⊥) × NoRepeat list

@@ -19,7 +19,8 @@ use mathlib.Core.Logic.{_⊎_, inl, inr, ⊎-elim}
 use mathlib.Core.Path.{_≡_, refl, sym, ap, _∙_}
 use native.Mathlib.Omega.{arith}
 use lib.ListN.{length, length-append}
-use Rattle.theory.specs.Arrange.{Arrange, NoRepeat}
+use Rattle.theory.specs.Arrange.{Arrange}
+use Rattle.theory.specs.Earlier.{NoRepeats}
 
 -- an element of a list stands between what is before it and what is after it
 pub mem-split : (list : List ℕ) (i : ℕ) → List·Memᴰ i list →
@@ -82,47 +83,59 @@ arrange-length (i ∷ order) todo a =
     rw (a .2)
     (omega (arith, arrange-length order (a .0 ++ a .1) (a .3), length-append (a .0) (a .1), length-append (a .0) (i ∷ a .1)))
 
+-- the first of a list in which nothing stands twice does not come again
+pub no-repeats-first : (i : ℕ) (list : List ℕ) → NoRepeats (i ∷ list) → List·Memᴰ i list → ⊥
+unfolding NoRepeats
+no-repeats-first i list n m = n .0 i m refl
+
+-- nothing stands twice after the first of a list in which nothing stands twice
+pub no-repeats-rest : (i : ℕ) (list : List ℕ) → NoRepeats (i ∷ list) → NoRepeats list
+unfolding NoRepeats
+no-repeats-rest i list n = n .1
+
+-- nothing stands twice in a list with one more in front that is new
+pub no-repeats-with : (i : ℕ) (list : List ℕ) → (List·Memᴰ i list → ⊥) → NoRepeats list → NoRepeats (i ∷ list)
+unfolding NoRepeats
+no-repeats-with i list h n = (λ j m e. h (Memᴰ·cast e m), n)
+
 -- nothing stands twice in a list without its middle when nothing does with it, and the middle is none of the others
-pub no-repeat-middle : (before : List ℕ) (i : ℕ) (after : List ℕ) → NoRepeat (before ++ (i ∷ after)) →
-    (List·Memᴰ i (before ++ after) → ⊥) × NoRepeat (before ++ after)
-unfolding NoRepeat
-no-repeat-middle [] i after n = n
-no-repeat-middle (j ∷ before) i after n =
-    let rest = no-repeat-middle before i after (n .1) in (
+pub no-repeats-middle : (before : List ℕ) (i : ℕ) (after : List ℕ) → NoRepeats (before ++ (i ∷ after)) →
+    (List·Memᴰ i (before ++ after) → ⊥) × NoRepeats (before ++ after)
+no-repeats-middle [] i after n = (no-repeats-first i after n, no-repeats-rest i after n)
+no-repeats-middle (j ∷ before) i after n =
+    let rest = no-repeats-middle before i after (no-repeats-rest j (before ++ (i ∷ after)) n) in
+    let new = no-repeats-first j (before ++ (i ∷ after)) n in (
       λ m.
-          ⊎-elim
-          (λ (e : i ≡ j). n .0 (Memᴰ·cast (sym e) (mem-middle before i after)))
-          (rest .0)
-          (List·Memᴰ·cases-cons m),
-      (λ m. n .0 (mem-wider before i after j m), rest .1),
+          ⊎-elim (λ (e : i ≡ j). new (Memᴰ·cast (sym e) (mem-middle before i after))) (rest .0) (List·Memᴰ·cases-cons m),
+      no-repeats-with j (before ++ after) (λ m. new (mem-wider before i after j m)) (rest .1),
     )
 
 -- nothing stands twice in an order of a list in which nothing does
-pub arrange-no-repeat : (order todo : List ℕ) → Arrange order todo → NoRepeat todo → NoRepeat order
-unfolding Arrange NoRepeat
-arrange-no-repeat [] todo a n = tt
-arrange-no-repeat (i ∷ order) todo a n =
-    let rest = no-repeat-middle (a .0) i (a .1) (rw (a .2) at n) in
-    (λ m. rest .0 (arrange-mem order (a .0 ++ a .1) (a .3) i m), arrange-no-repeat order (a .0 ++ a .1) (a .3) (rest .1))
+pub arrange-no-repeats : (order todo : List ℕ) → Arrange order todo → NoRepeats todo → NoRepeats order
+unfolding Arrange NoRepeats
+arrange-no-repeats [] todo a n = tt
+arrange-no-repeats (i ∷ order) todo a n =
+    let rest = no-repeats-middle (a .0) i (a .1) (rw (a .2) at n) in
+    no-repeats-with i order (λ m. rest .0 (arrange-mem order (a .0 ++ a .1) (a .3) i m))
+    (arrange-no-repeats order (a .0 ++ a .1) (a .3) (rest .1))
 
 -- as many elements of a list as it has, none twice, are an order of it
-pub arrange-from : (order todo : List ℕ) → NoRepeat order → length order ≡ length todo →
+pub arrange-from : (order todo : List ℕ) → NoRepeats order → length order ≡ length todo →
     ((j : ℕ) → List·Memᴰ j order → List·Memᴰ j todo) → Arrange order todo
-unfolding Arrange NoRepeat
+unfolding Arrange
 arrange-from [] [] n e h = refl
 arrange-from [] (i ∷ todo) n e h = absurd (omega arith)
 arrange-from (i ∷ order) todo n e h =
-    let s = mem-split todo i (h i (List·Memᴰ·head refl)) in
-    let longer : length todo ≡ suc (length (s .0 ++ s .1)) =
-    ap length (s .2) ∙ omega (arith, length-append (s .0) (s .1), length-append (s .0) (i ∷ s .1))
-    in (
-      s .0,
-      s .1,
-      s .2,
-      arrange-from order (s .0 ++ s .1) (n .1) (omega arith)
+    let (before, after, split) = mem-split todo i (h i (List·Memᴰ·head refl)) in
+    let longer : length todo ≡ length (before ++ (i ∷ after)) = ap length split in (
+      before,
+      after,
+      split,
+      arrange-from order (before ++ after) (no-repeats-rest i order n)
+          (omega (arith, length-append before after, length-append before (i ∷ after)))
           (λ j m.
           ⊎-elim
-          (λ (e : j ≡ i). absurd (n .0 (Memᴰ·cast (sym e) m)))
+          (λ (e : j ≡ i). absurd (no-repeats-first i order n (Memᴰ·cast (sym e) m)))
           (λ k. k)
-          (mem-cases (s .0) i (s .1) j (rw (s .2) at (h j (List·Memᴰ·tail m))))),
+          (mem-cases before i after j (rw split at (h j (List·Memᴰ·tail m))))),
     )
