@@ -1,13 +1,29 @@
--- The band's limits.
-use Prim.Native.Nat.{ℕ}
-use mathlib.Core.Bool.{Bool, cond, _&&_}
-use lib.Dec.{leb}
-use lib.IntN.{ℤ, pos, negℤ}
+-- The frequency grid: which bands are allowed, where a block of slots stands on the grid, and which block has given grid numbers.
+-- The names are those of the rules: n0 is the band's lower edge, S its slot count, G its guard; a block has a start s and a width w;
+-- n is its central number and m its width number.
+use Prim.Native.Nat.{ℕ, _+_, _*_, _/_, _%_}
+use mathlib.Core.Bool.{Bool, true, false, cond, _&&_}
+use lib.Dec.{leb, eqb}
+use lib.IntN.{ℤ, pos, negsuc, negℤ, _+ℤ_, _-ℤ_, _*ℤ_}
 use lib.Signed.{leZ}
-use Rattle.refusal.specs.declared.Refusal.the-variants.{BandOutside}
+use Rattle.refusal.specs.declared.Refusal.the-variants.{BandOutside, BadWidth, EndAbove, NoBlock}
 use Rattle.grid.specs.declared.Band.{Band}
 use Rattle.grid.specs.declared.BandReply.{BandReply}
-use Rattle.grid.specs.declared.BandReply.the-variants.{Allowed, Refused}
+use Rattle.grid.specs.declared.BandReply.the-variants as band-reply
+use Rattle.grid.specs.declared.Frequency.{Frequency}
+use Rattle.grid.specs.declared.FrequencyReply.{FrequencyReply}
+use Rattle.grid.specs.declared.FrequencyReply.the-variants as frequency-reply
+use Rattle.grid.specs.declared.Block.{Block}
+use Rattle.grid.specs.declared.BlockReply.{BlockReply}
+use Rattle.grid.specs.declared.BlockReply.the-variants as block-reply
+
+-- unless the test holds, the refusal; where it holds, the rest
+module _ {A : Type 0} where
+  abbrev pub unless : Bool → A → A → A
+  unless true refusal rest = rest
+  unless false refusal rest = refusal
+
+-- ---- the band
 
 -- a lower edge n0 is allowed from -400 to 400
 abbrev pub allowedEdge : ℤ → Bool
@@ -28,6 +44,64 @@ allowedBand band = allowedEdge (band .n0) && (allowedSlots (band .slots) && allo
 -- the band of three numbers, or refusal 4 at place 0
 abbrev pub bandReply : ℤ → ℕ → ℕ → BandReply
 bandReply n0 S G =
-    cond (allowedBand (record { n0 = n0; slots = S; guard = G }))
-    (Allowed (record { n0 = n0; slots = S; guard = G }))
-    (Refused (BandOutside 0))
+    unless (allowedBand (record { n0 = n0; slots = S; guard = G })) (band-reply.Refused (BandOutside 0))
+    (band-reply.Allowed (record { n0 = n0; slots = S; guard = G }))
+
+-- ---- from a block to its frequency
+
+-- a width w is allowed from 1 to S
+abbrev pub allowedWidth : ℕ → ℕ → Bool
+allowedWidth S w = leb 1 w && leb w S
+
+-- an end s + w is allowed up to S
+abbrev pub endWithin : ℕ → ℕ → ℕ → Bool
+endWithin S s w = leb (s + w) S
+
+-- the central number: n = n0 + 2 s + w
+abbrev pub centralNumber : ℤ → ℕ → ℕ → ℤ
+centralNumber n0 s w = n0 +ℤ pos (2 * s + w)
+
+-- the central frequency in MHz: 193,100,000 + 6,250 n
+abbrev pub centralMHz : ℤ → ℤ
+centralMHz n = pos 193100000 +ℤ pos 6250 *ℤ n
+
+-- where a block stands: its n, its m, which is w, and its central frequency
+abbrev pub frequencyOf : ℤ → ℕ → ℕ → Frequency
+frequencyOf n0 s w =
+    record { n = centralNumber n0 s w; m = w; mhz = centralMHz (centralNumber n0 s w) }
+
+-- a block's frequency; or refusal 4, then 9, then 17 for an end s + w above S, each at place 0
+unfoldable pub frequencyReply : Band → ℕ → ℕ → FrequencyReply
+frequencyReply band s w =
+    unless (allowedBand band) (frequency-reply.Refused (BandOutside 0))
+    (unless (allowedWidth (band .slots) w) (frequency-reply.Refused (BadWidth 0))
+    (unless (endWithin (band .slots) s w) (frequency-reply.Refused (EndAbove 0))
+    (frequency-reply.Centred (frequencyOf (band .n0) s w))))
+
+-- ---- and back
+
+-- n - n0 - m, which is twice the start of a block that has n and m
+abbrev pub gapOf : ℤ → ℤ → ℕ → ℤ
+gapOf n0 n m = n -ℤ n0 -ℤ pos m
+
+-- whether a number is even and not negative
+abbrev pub evenNatural : ℤ → Bool
+evenNatural (pos d) = eqb (d % 2) 0
+evenNatural (negsuc d) = false
+
+-- half of a number that is even and not negative
+abbrev pub halfOf : ℤ → ℕ
+halfOf (pos d) = d / 2
+halfOf (negsuc d) = 0
+
+-- whether n and m are those of a block: m from 1 to S, n - n0 - m even and not negative, and the end at most S
+abbrev pub namesBlock : Band → ℤ → ℕ → Bool
+namesBlock band n m =
+    allowedWidth (band .slots) m && (evenNatural (gapOf (band .n0) n m) && endWithin (band .slots) (halfOf (gapOf (band .n0) n m)) m)
+
+-- the block that has n and m; or refusal 4, then 19, each at place 0
+unfoldable pub blockReply : Band → ℤ → ℕ → BlockReply
+blockReply band n m =
+    unless (allowedBand band) (block-reply.Refused (BandOutside 0))
+    (unless (namesBlock band n m) (block-reply.Refused (NoBlock 0))
+    (block-reply.Found (record { start = halfOf (gapOf (band .n0) n m); width = m })))

@@ -1,3 +1,4 @@
 -- The definitions of the grid and their laws.
 pub mod Grid
 pub mod GridLaws
+pub mod SignedLaws

@@ -1,10 +1,9 @@
 -- `grid::Band::new` meets its contract. Assumes nothing.
 use mathlib.Core.Path.{_≡_, sym, _∙_, ap}
-use mathlib.Core.Bool.{true, false}
 use borrow.Author.Needs.{needs}
 use lib.IntN.{ℤ}
-use mir.ValLaws.{toZ-ofZ}
-use mir.Val.{toZ, ofZ, SFits}
+use mir.Facts.{toZ-ofZ}
+use mir.Val.{toZ, ofZ}
 use mir.Syntax.{w16}
 use Rattle.grid.specs.Grid.{bandReply}
 use Rattle.grid.specs.GridLaws.{band-allowed, band-outside}
@@ -16,19 +15,17 @@ allowed-requires c κs = search needs
 
 returns : tie.Need-returns
 returns c =
-    let n0 = c .before .before .args .n0 in
-    let same : toZ w16 (ofZ w16 n0) ≡ n0 = toZ-ofZ w16 n0 (c .before .before .fits .n0) in
-    band-allowed (toZ w16 (ofZ w16 n0)) (c .before .before .args .slots) (c .before .before .args .guard)
-    (sym (c .if1 .taken) ∙ c .before .allowed .ensures) ∙
-    ap (λ (z : ℤ). bandReply z (c .before .before .args .slots) (c .before .before .args .guard)) same
+    let S = c .before .before .args .slots in
+    let G = c .before .before .args .guard in
+    sym (band-allowed (toZ w16 (ofZ w16 (c .before .before .args .n0))) S G (sym (c .before .allowed .ensures) ∙ c .if1 .taken)) ∙
+    ap (λ (n0 : ℤ). bandReply n0 S G) (toZ-ofZ (c .before .before .fits .n0))
 
 returns-2 : tie.Need-returns-2
 returns-2 c =
-    let n0 = c .before .before .args .n0 in
-    let same : toZ w16 (ofZ w16 n0) ≡ n0 = toZ-ofZ w16 n0 (c .before .before .fits .n0) in
-    band-outside (toZ w16 (ofZ w16 n0)) (c .before .before .args .slots) (c .before .before .args .guard)
-    (sym (c .if1 .left) ∙ c .before .allowed .ensures) ∙
-    ap (λ (z : ℤ). bandReply z (c .before .before .args .slots) (c .before .before .args .guard)) same
+    let S = c .before .before .args .slots in
+    let G = c .before .before .args .guard in
+    sym (band-outside (toZ w16 (ofZ w16 (c .before .before .args .n0))) S G (sym (c .before .allowed .ensures) ∙ c .if1 .left)) ∙
+    ap (λ (n0 : ℤ). bandReply n0 S G) (toZ-ofZ (c .before .before .fits .n0))
 
 pub new-spec : {M : Type 1} → statement M
 new-spec = tie.close (tie.spec allowed-requires returns returns-2)
