@@ -11,3 +11,4 @@ pub mod OrdersLaws
 pub mod Walk
 pub mod WalkBranchLaws
 pub mod Search
+pub mod ListingLaws
