@@ -10,5 +10,8 @@ pub mod Earlier
 pub mod OrdersLaws
 pub mod Walk
 pub mod WalkBranchLaws
+pub mod Tried
+pub mod TriedLaws
+pub mod WalkLaws
 pub mod Search
 pub mod ListingLaws

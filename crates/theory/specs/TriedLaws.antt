@@ -1,0 +1,204 @@
+-- Orders tried one after the other leave the first of the lowest in the lead.
+use Prim.Native.Nat.{ℕ, _≤_, _<_, max}
+use mathlib.Core.Bool.{Bool, true, false, cond}
+use mathlib.Core.List.{List, [], _∷_, _++_, map, List·Memᴰ, List·Memᴰ·head, List·Memᴰ·tail, List·Memᴰ·cases-cons, List·Memᴰ·append-cases, List·Memᴰ·not-nil, append-assoc}
+use mathlib.Core.Logic.{_⊎_, inl, inr, ⊎-elim}
+use mathlib.Core.Path.{_≡_, refl, sym, _∙_, ap, subst}
+use native.Mathlib.Omega.{arith}
+use borrow.Author.Tests.{ltb-true, ltb-false, lt-ltb, le-ltb, eqb-true, eqb-false}
+use lib.Dec.{ltb, eqb}
+use Rattle.theory.specs.Problem.{Problem, Row, place, fill, top, endOf}
+use Rattle.theory.specs.Walk.{Best, met}
+use Rattle.theory.specs.Tried.{Lead, endsAt, leadBy, try, FirstLowest, Leads, unbeaten, taken}
+
+-- a number is below another or not
+pub below-or-not : (a b : ℕ) → (a < b) ⊎ (b ≤ a)
+below-or-not a b = by (ltb a b) refl
+  where
+    by : (test : Bool) → ltb a b ≡ test → (a < b) ⊎ (b ≤ a)
+    by true e = inl (ltb-true a b e)
+    by false e = inr (ltb-false a b e)
+
+-- a number equals another or not
+pub equal-or-not : (a b : ℕ) → (a ≡ b) ⊎ (a ≡ b → ⊥)
+equal-or-not a b = by (eqb a b) refl
+  where
+    by : (test : Bool) → eqb a b ≡ test → (a ≡ b) ⊎ (a ≡ b → ⊥)
+    by true e = inl (eqb-true a b e)
+    by false e = inr (eqb-false a b e)
+
+module _ (P : Problem) where
+  -- placing a demand never lowers the largest end
+  pub top-place : (rows : List Row) (i : ℕ) → top P rows ≤ top P (place P rows i)
+  unfolding top place
+  top-place rows i = omega arith
+
+  -- nor does placing the demands of an order
+  pub top-fill : (rows : List Row) (order : List ℕ) → top P rows ≤ endsAt P rows order
+  unfolding fill endsAt
+  top-fill rows [] = omega arith
+  top-fill rows (i ∷ order) = omega (arith, top-place rows i, top-fill (place P rows i) order)
+
+  -- an order that begins with i ends where the rest of it ends once i is placed
+  pub endsAt-place : (rows : List Row) (i : ℕ) (order : List ℕ) → endsAt P rows (i ∷ order) ≡ endsAt P (place P rows i) order
+  unfolding endsAt fill
+  endsAt-place rows i order = refl
+
+  -- an order below the mark takes the lead
+  pub try-better : (rows : List Row) (path o : List ℕ) (os : List (List ℕ)) (l : Lead) → endsAt P rows o < l .mark →
+      try P rows path (o ∷ os) l ≡ try P rows path os (leadBy P rows path o)
+  unfolding try
+  try-better rows path o os l h =
+      ap (λ (b : Bool). try P rows path os (cond b (leadBy P rows path o) l)) (lt-ltb (endsAt P rows o) (l .mark) h)
+
+  -- an order not below the mark changes nothing
+  pub try-equalled : (rows : List Row) (path o : List ℕ) (os : List (List ℕ)) (l : Lead) → l .mark ≤ endsAt P rows o →
+      try P rows path (o ∷ os) l ≡ try P rows path os l
+  unfolding try
+  try-equalled rows path o os l h =
+      ap (λ (b : Bool). try P rows path os (cond b (leadBy P rows path o) l)) (le-ltb (endsAt P rows o) (l .mark) h)
+
+  -- trying two lists of orders is trying the one, then the other
+  pub try-append : (rows : List Row) (path : List ℕ) (xs ys : List (List ℕ)) (l : Lead) →
+      try P rows path (xs ++ ys) l ≡ try P rows path ys (try P rows path xs l)
+  unfolding try
+  try-append rows path [] ys l = refl
+  try-append rows path (o ∷ xs) ys l =
+      try-append rows path xs ys (cond (ltb (endsAt P rows o) (l .mark)) (leadBy P rows path o) l)
+
+  -- trying orders that begin with i is trying what follows, with i placed
+  pub try-map : (rows : List Row) (path : List ℕ) (i : ℕ) (os : List (List ℕ)) (l : Lead) →
+      try P rows path (map (λ (o : List ℕ). i ∷ o) os) l ≡ try P (place P rows i) (path ++ (i ∷ [])) os l
+  unfolding try endsAt leadBy fill
+  try-map rows path i [] l = refl
+  try-map rows path i (o ∷ os) l =
+      try-map rows path i os (cond (ltb (endsAt P rows (i ∷ o)) (l .mark)) (leadBy P rows path (i ∷ o)) l)
+      ∙ ap
+      (λ (order : List ℕ).
+      try P (place P rows i) (path ++ (i ∷ [])) os
+      (cond
+      (ltb (endsAt P (place P rows i) o) (l .mark))
+      (record { mark = endsAt P (place P rows i) o; best = met (fill P (place P rows i) o) order })
+      l))
+      (sym (append-assoc path (i ∷ []) o))
+
+  -- orders none of which ends below the mark change nothing
+  pub try-none : (rows : List Row) (path : List ℕ) (os : List (List ℕ)) (l : Lead) →
+      ((o : List ℕ) → List·Memᴰ o os → l .mark ≤ endsAt P rows o) → try P rows path os l ≡ l
+  unfolding try
+  try-none rows path [] l h = refl
+  try-none rows path (o ∷ os) l h =
+      try-equalled rows path o os l (h o (List·Memᴰ·head refl))
+      ∙ try-none rows path os l (λ (x : List ℕ) m. h x (List·Memᴰ·tail m))
+
+  -- what holds of the head and of each in the tail holds of each
+  each-cons : (Q : List ℕ → Type 0) (o : List ℕ) (os : List (List ℕ)) → Q o → ((x : List ℕ) → List·Memᴰ x os → Q x) →
+      (x : List ℕ) → List·Memᴰ x (o ∷ os) → Q x
+  each-cons Q o os here there x m =
+      ⊎-elim
+      (λ (e : x ≡ o). subst Q (sym e) here)
+      (λ (n : List·Memᴰ x os). there x n)
+      (List·Memᴰ·cases-cons m)
+
+  -- the lead after an order below the mark and then others
+  better-first : (rows : List Row) (path o : List ℕ) (os : List (List ℕ)) (l after : Lead) → endsAt P rows o < l .mark →
+      Leads P rows path os (leadBy P rows path o) after → Leads P rows path (o ∷ os) l after
+  unfolding leadBy
+  better-first rows path o os l after below (unbeaten none-lower same) =
+      taken
+      o
+      (record {
+        earlier = [];
+        later = os;
+        stands = refl;
+        below-mark = below;
+        earlier-higher = λ (x : List ℕ) m. absurd (List·Memᴰ·not-nil m);
+        later-no-lower = none-lower;
+      })
+      same
+  better-first rows path o os l after below (taken x lowest same) =
+      taken
+      x
+      (record {
+        earlier = o ∷ lowest .earlier;
+        later = lowest .later;
+        stands = ap (λ (t : List (List ℕ)). o ∷ t) (lowest .stands);
+        below-mark = omega (arith, lowest .below-mark);
+        earlier-higher =
+            each-cons
+            (λ (y : List ℕ). endsAt P rows x < endsAt P rows y)
+            o
+            (lowest .earlier)
+            (lowest .below-mark)
+            (lowest .earlier-higher);
+        later-no-lower = lowest .later-no-lower;
+      })
+      same
+
+  -- the lead after an order not below the mark and then others
+  equalled-first : (rows : List Row) (path o : List ℕ) (os : List (List ℕ)) (l after : Lead) → l .mark ≤ endsAt P rows o →
+      Leads P rows path os l after → Leads P rows path (o ∷ os) l after
+  equalled-first rows path o os l after not-below (unbeaten none-lower same) =
+      unbeaten (each-cons (λ (y : List ℕ). l .mark ≤ endsAt P rows y) o os not-below none-lower) same
+  equalled-first rows path o os l after not-below (taken x lowest same) =
+      taken
+      x
+      (record {
+        earlier = o ∷ lowest .earlier;
+        later = lowest .later;
+        stands = ap (λ (t : List (List ℕ)). o ∷ t) (lowest .stands);
+        below-mark = lowest .below-mark;
+        earlier-higher =
+            each-cons
+            (λ (y : List ℕ). endsAt P rows x < endsAt P rows y)
+            o
+            (lowest .earlier)
+            (omega (arith, lowest .below-mark))
+            (lowest .earlier-higher);
+        later-no-lower = lowest .later-no-lower;
+      })
+      same
+
+  -- after a list of orders the lead is as it was, and none of them ends below the mark; or it is that of the first of the lowest
+  pub try-leads : (rows : List Row) (path : List ℕ) (os : List (List ℕ)) (l : Lead) →
+      Leads P rows path os l (try P rows path os l)
+  unfolding try
+  try-leads rows path [] l = unbeaten (λ (o : List ℕ) m. absurd (List·Memᴰ·not-nil m)) refl
+  try-leads rows path (o ∷ os) l =
+      ⊎-elim
+      (λ (below : endsAt P rows o < l .mark).
+      subst
+      (Leads P rows path (o ∷ os) l)
+      (sym (try-better rows path o os l below))
+      (better-first rows path o os l (try P rows path os (leadBy P rows path o)) below (try-leads rows path os (leadBy P rows path o))))
+      (λ (not-below : l .mark ≤ endsAt P rows o).
+      subst
+      (Leads P rows path (o ∷ os) l)
+      (sym (try-equalled rows path o os l not-below))
+      (equalled-first rows path o os l (try P rows path os l) not-below (try-leads rows path os l)))
+      (below-or-not (endsAt P rows o) (l .mark))
+
+  -- the mark only falls
+  pub leads-mark : (rows : List Row) (path : List ℕ) (os : List (List ℕ)) (l after : Lead) →
+      Leads P rows path os l after → after .mark ≤ l .mark
+  unfolding leadBy
+  leads-mark rows path os l after (unbeaten none-lower same) = omega (arith, ap (λ (k : Lead). k .mark) same)
+  leads-mark rows path os l after (taken o lowest same) =
+      omega (arith, lowest .below-mark, ap (λ (k : Lead). k .mark) same)
+
+  -- no order tried ends below the mark that they leave
+  pub leads-least : (rows : List Row) (path : List ℕ) (os : List (List ℕ)) (l after : Lead) →
+      Leads P rows path os l after → (o : List ℕ) → List·Memᴰ o os → after .mark ≤ endsAt P rows o
+  unfolding leadBy
+  leads-least rows path os l after (unbeaten none-lower same) o m =
+      omega (arith, ap (λ (k : Lead). k .mark) same, none-lower o m)
+  leads-least rows path os l after (taken x lowest same) o m =
+      let mark-is : after .mark ≡ endsAt P rows x = ap (λ (k : Lead). k .mark) same in
+      ⊎-elim
+      (λ (e : List·Memᴰ o (lowest .earlier)). omega (arith, lowest .earlier-higher o e))
+      (λ (e : List·Memᴰ o (x ∷ lowest .later)).
+      ⊎-elim
+      (λ (q : o ≡ x). omega (arith, ap (endsAt P rows) q))
+      (λ (q : List·Memᴰ o (lowest .later)). omega (arith, lowest .later-no-lower o q))
+      (List·Memᴰ·cases-cons e))
+      (List·Memᴰ·append-cases (lowest .earlier) (subst (List·Memᴰ o) (lowest .stands) m))
