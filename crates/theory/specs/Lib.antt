@@ -13,5 +13,6 @@ pub mod WalkBranchLaws
 pub mod Tried
 pub mod TriedLaws
 pub mod WalkLaws
+pub mod LimitLaws
 pub mod Search
 pub mod ListingLaws

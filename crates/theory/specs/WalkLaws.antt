@@ -18,7 +18,7 @@ use Rattle.theory.specs.TriedLaws.{below-or-not, equal-or-not, top-fill,
 going-not-at-bound : going ≡ at-bound → ⊥
 going-not-at-bound e = let z : _≡_ {A = ℕ} 0 1 = cc in omega arith
 
-going-not-out : going ≡ out-of-steps → ⊥
+pub going-not-out : going ≡ out-of-steps → ⊥
 going-not-out e = let z : _≡_ {A = ℕ} 0 1 = cc in omega arith
 
 at-bound-not-out : at-bound ≡ out-of-steps → ⊥
@@ -404,6 +404,12 @@ module _ (P : Problem) (limit bound : ℕ) where
   walk-walked zero rows path left t on sized = walked-complete rows path t on
   walk-walked (suc n) rows path left t on sized =
       walked-siblings (walk P limit bound n) n (walk-walked n) rows path [] left t on (omega arith)
+
+  -- judging in the walk takes in a first part of the orders of what is left
+  pub judge-walked : (n : ℕ) (rows : List Row) (path left : List ℕ) (t : Tally) → t .course ≡ going → length left ≡ n →
+      Walked P limit bound rows path (ordersOf n left) t (judge P limit bound (walk P limit bound n) n rows path left t)
+  unfolding Walks
+  judge-walked n rows path left t on sized = walked-judge (walk P limit bound n) n (walk-walked n) rows path left t on sized
 
   -- a step of the walk takes in a first part of the orders that begin with its demand
   pub step-walked : (n : ℕ) (rows : List Row) (path : List ℕ) (i : ℕ) (left : List ℕ) (t : Tally) → t .course ≡ going →
