@@ -5,6 +5,9 @@ pub mod ArrangeLaws
 pub mod TestLaws
 pub mod ApartLaws
 pub mod ProblemLaws
+pub mod Scan
+pub mod ScanLaws
+pub mod FillLaws
 pub mod Orders
 pub mod Earlier
 pub mod OrdersLaws

@@ -213,15 +213,30 @@ pub place-is : (P : Problem) (rows : List Row) (i : ℕ) → place P rows i ≡ 
 unfolding place
 place-is P rows i = refl
 
+-- where no gap is above g, past every row and its gap is at most g above the top
+pub past-top : (P : Problem) (rows : List Row) (i g : ℕ) → ((j : ℕ) → P .gap j i ≤ g) → past P rows i ≤ top P rows + g
+unfolding past
+past-top P [] i g h = omega arith
+past-top P (r ∷ rows) i g h = omega (arith, top-cons P r rows, h (r .who), past-top P rows i g h)
+
 -- the top after placing a demand is the larger of its end and the top before
 pub top-place : (P : Problem) (rows : List Row) (i : ℕ) →
     top P (place P rows i) ≡ max (endOf P i (lowest P rows i)) (top P rows)
 top-place P rows i = rw (place-is, top-cons)
 
--- to fit beside the rows after a demand was placed is to be apart from it and to fit before
-pub fits-place : (P : Problem) (rows : List Row) (i j s : ℕ) →
-    fits P (place P rows i) j s ≡ (apart P i (lowest P rows i) j s && fits P rows j s)
-fits-place P rows i j s = rw (place-is, fits-cons)
+-- what fits after a demand was placed is apart from it at its lowest start
+pub place-apart : (P : Problem) (rows : List Row) (i j s : ℕ) → fits P (place P rows i) j s ≡ true →
+    apart P i (lowest P rows i) j s ≡ true
+place-apart P rows i j s f = fits-first P (record { who = i; at = lowest P rows i }) rows j s (rw place-is at f)
+
+-- what fits after a demand was placed fitted before
+pub place-rest : (P : Problem) (rows : List Row) (i j s : ℕ) → fits P (place P rows i) j s ≡ true → fits P rows j s ≡ true
+place-rest P rows i j s f = fits-rest P (record { who = i; at = lowest P rows i }) rows j s (rw place-is at f)
+
+-- what fitted before, and is apart from a demand at its lowest start, fits after that was placed
+pub place-with : (P : Problem) (rows : List Row) (i j s : ℕ) → apart P i (lowest P rows i) j s ≡ true → fits P rows j s ≡ true →
+    fits P (place P rows i) j s ≡ true
+place-with P rows i j s a f = rw place-is (fits-with P (record { who = i; at = lowest P rows i }) rows j s a f)
 
 -- filling along no order leaves the rows
 pub fill-nil : (P : Problem) (rows : List Row) → fill P rows [] ≡ rows
@@ -303,6 +318,11 @@ pub planEnd-row : (P : Problem) (r : Row) (rows : List Row) (todo : List ℕ) (p
 unfolding planEnd
 planEnd-row P r rows [] plan = top-cons P r rows
 planEnd-row P r rows (i ∷ todo) plan = omega (arith, planEnd-row P r rows todo plan)
+
+-- a demand just placed counts with its end
+pub planEnd-place : (P : Problem) (rows : List Row) (i : ℕ) (todo : List ℕ) (plan : ℕ → ℕ) →
+    planEnd P (place P rows i) todo plan ≡ max (endOf P i (lowest P rows i)) (planEnd P rows todo plan)
+planEnd-place P rows i todo plan = rw place-is (planEnd-row P (record { who = i; at = lowest P rows i }) rows todo plan)
 
 -- no demand of a plan ends above the plan's end
 pub planEnd-above : (P : Problem) (rows : List Row) (todo : List ℕ) (plan : ℕ → ℕ) (i : ℕ) → List·Memᴰ i todo →
