@@ -2,7 +2,7 @@
 -- The names are those of the rules: n0 is the band's lower edge, S its slot count, G its guard; a block has a start s and a width w;
 -- n is its central number and m its width number.
 use Prim.Native.Nat.{ℕ, _+_, _*_, _/_, _%_}
-use mathlib.Core.Bool.{Bool, true, false, cond, _&&_}
+use mathlib.Core.Bool.{Bool, true, false, _&&_}
 use lib.Dec.{leb, eqb}
 use lib.IntN.{ℤ, pos, negsuc, negℤ, _+ℤ_, _-ℤ_, _*ℤ_}
 use lib.Signed.{leZ}
@@ -13,7 +13,6 @@ use Rattle.grid.specs.declared.BandReply.the-variants as band-reply
 use Rattle.grid.specs.declared.Frequency.{Frequency}
 use Rattle.grid.specs.declared.FrequencyReply.{FrequencyReply}
 use Rattle.grid.specs.declared.FrequencyReply.the-variants as frequency-reply
-use Rattle.grid.specs.declared.Block.{Block}
 use Rattle.grid.specs.declared.BlockReply.{BlockReply}
 use Rattle.grid.specs.declared.BlockReply.the-variants as block-reply
 

@@ -1,106 +1,151 @@
--- Laws of the band and of the two replies: one for each way a reply can go.
-use Prim.Native.Nat.{ℕ, _+_, _-_, _≤_}
-use mathlib.Core.Path.{_≡_, refl, sym, _∙_, ap}
-use mathlib.Core.Bool.{Bool, true, false, _&&_}
+-- The theorems of the grid: a block and its frequency name each other, and each call has one right answer.
+use Prim.Native.Nat.{ℕ, _+_, _*_, _%_}
+use mathlib.Core.Path.{_≡_, sym, _∙_, ap}
+use mathlib.Core.Bool.{Bool, true, _&&_}
 use native.Mathlib.Omega.{arith}
-use borrow.Author.Tests.{leb-true, leb-false, le-leb, lt-leb}
-use lib.Dec.{leb}
-use lib.IntN.{ℤ}
-use Rattle.refusal.specs.declared.Refusal.the-variants.{BandOutside, BadWidth, EndAbove, NoBlock}
+use borrow.Author.Tests.{eq-eqb, eqb-true}
+use lib.IntN.{ℤ, pos, negsuc, _+ℤ_, _-ℤ_, +ℤ-comm, +ℤ-negℤ-cancel, -ℤ-+ℤ-cancel}
+use Rattle.refusal.specs.declared.Refusal.{Refusal}
 use Rattle.grid.specs.declared.Band.{Band}
-use Rattle.grid.specs.declared.BandReply.the-variants as band-reply
+use Rattle.grid.specs.declared.BandReply.{BandReply}
+use Rattle.grid.specs.declared.Frequency.{Frequency}
+use Rattle.grid.specs.declared.FrequencyReply.{FrequencyReply}
 use Rattle.grid.specs.declared.FrequencyReply.the-variants as frequency-reply
+use Rattle.grid.specs.declared.Block.{Block}
+use Rattle.grid.specs.declared.BlockReply.{BlockReply}
 use Rattle.grid.specs.declared.BlockReply.the-variants as block-reply
-use Rattle.grid.specs.Grid.{unless, allowedBand, bandReply, allowedWidth, endWithin, frequencyOf, frequencyReply, gapOf, evenNatural, halfOf, namesBlock, blockReply}
+use Rattle.grid.specs.Grid.{allowedBand, bandReply, allowedWidth, endWithin, centralNumber, centralMHz, frequencyOf, frequencyReply, gapOf, evenNatural, halfOf, namesBlock, blockReply}
+use Rattle.grid.specs.ReplyLaws.{first-of-both, second-of-both, by-test, frequency-outside, frequency-width, frequency-end, frequency-centred, block-outside, block-none, block-found, named-end}
 
--- where the first test holds, both hold when the second does
-pub both-if : (a b : Bool) → a ≡ true → b ≡ a && b
-both-if true b h = refl
-both-if false b h = absurd (let no : _≡_ {A = ℕ} 0 1 = cc in omega arith)
+-- ---- the numbers alone
 
--- where the first test fails, both do
-pub not-both : (a b : Bool) → a ≡ false → false ≡ a && b
-not-both true b h = absurd (let no : _≡_ {A = ℕ} 0 1 = cc in omega arith)
-not-both false b h = refl
+-- a block's n and m are its width and twice its start away from the lower edge
+pub gap-of-block : (n0 : ℤ) (s w : ℕ) → gapOf n0 (centralNumber n0 s w) w ≡ pos (2 * s)
+gap-of-block n0 s w =
+    ap (λ (z : ℤ). z -ℤ n0 -ℤ pos w) (+ℤ-comm n0 (pos (2 * s + w))) ∙
+    ap (λ (z : ℤ). z -ℤ pos w) (+ℤ-negℤ-cancel (pos (2 * s + w)) n0) ∙
+    +ℤ-negℤ-cancel (pos (2 * s)) (pos w)
 
--- a test holds or fails
-by-test : {X : Type 0} (b : Bool) → (b ≡ true → X) → (b ≡ false → X) → X
-by-test true held failed = held refl
-by-test false held failed = failed refl
+-- what is even and not negative is twice its half
+pub twice-half : (z : ℤ) → evenNatural z ≡ true → pos (2 * halfOf z) ≡ z
+twice-half (pos d) h = ap pos (omega (arith, eqb-true (d % 2) 0 h))
+twice-half (negsuc d) h = absurd (let no : _≡_ {A = ℕ} 0 1 = cc in omega arith)
 
-module _ {A : Type 0} where
-  -- where the test fails, the refusal is given
-  pub unless-not : (b : Bool) (refusal rest : A) → b ≡ false → unless b refusal rest ≡ refusal
-  unless-not b refusal rest h = ap (λ (t : Bool). unless t refusal rest) h
+-- the block that starts at half an even gap has the central number that the gap was made of
+pub block-of-gap : (n0 n : ℤ) (m : ℕ) → evenNatural (gapOf n0 n m) ≡ true → centralNumber n0 (halfOf (gapOf n0 n m)) m ≡ n
+block-of-gap n0 n m h =
+    ap (λ (z : ℤ). n0 +ℤ (z +ℤ pos m)) (twice-half (gapOf n0 n m) h) ∙
+    ap (λ (z : ℤ). n0 +ℤ z) (-ℤ-+ℤ-cancel (n -ℤ n0) (pos m)) ∙
+    +ℤ-comm n0 (n -ℤ n0) ∙
+    -ℤ-+ℤ-cancel n n0
 
-  -- where the test holds, the rest is given
-  pub unless-so : (b : Bool) (refusal rest : A) → b ≡ true → unless b refusal rest ≡ rest
-  unless-so b refusal rest h = ap (λ (t : Bool). unless t refusal rest) h
+-- ---- what an accepted call says
 
--- a band whose numbers are within their limits is answered
-pub band-allowed : (n0 : ℤ) (S G : ℕ) → allowedBand (record { n0 = n0; slots = S; guard = G }) ≡ true → bandReply n0 S G ≡ band-reply.Allowed (record { n0 = n0; slots = S; guard = G })
-band-allowed n0 S G h =
-    unless-so (allowedBand (record { n0 = n0; slots = S; guard = G })) (band-reply.Refused (BandOutside 0))
-    (band-reply.Allowed (record { n0 = n0; slots = S; guard = G })) h
+-- a block that has a frequency: its band, its width and its end are allowed, and the frequency is the block's
+pub record Centres (band : Band) (s w : ℕ) (f : Frequency) : Type 0 where
+  pub allowed : allowedBand band ≡ true
+  pub width : allowedWidth (band .slots) w ≡ true
+  pub end : endWithin (band .slots) s w ≡ true
+  pub is : f ≡ frequencyOf (band .n0) s w
 
--- a band with a number outside its limits is refused with 4
-pub band-outside : (n0 : ℤ) (S G : ℕ) → allowedBand (record { n0 = n0; slots = S; guard = G }) ≡ false → bandReply n0 S G ≡ band-reply.Refused (BandOutside 0)
-band-outside n0 S G h =
-    unless-not (allowedBand (record { n0 = n0; slots = S; guard = G })) (band-reply.Refused (BandOutside 0))
-    (band-reply.Allowed (record { n0 = n0; slots = S; guard = G })) h
+-- a refusal is no frequency
+refused-not-centred : {X : Type 0} (r : Refusal) (f : Frequency) → frequency-reply.Refused r ≡ frequency-reply.Centred f → X
+refused-not-centred r f h = absurd (let no : _≡_ {A = ℕ} 0 1 = cc in omega arith)
 
-module _ (band : Band) (s w : ℕ) where
-  -- a band outside its limits: 4
-  pub frequency-outside : allowedBand band ≡ false → frequencyReply band s w ≡ frequency-reply.Refused (BandOutside 0)
-  unfolding frequencyReply
-  frequency-outside h = rw h
+-- a reply that holds a frequency comes of a block that has it
+pub centres : (band : Band) (s w : ℕ) (f : Frequency) → frequencyReply band s w ≡ frequency-reply.Centred f → Centres band s w f
+centres band s w f h =
+    by-test (allowedBand band)
+    (λ allowed.
+    by-test (allowedWidth (band .slots) w)
+    (λ width.
+    by-test (endWithin (band .slots) s w)
+    (λ end. record { allowed = allowed; width = width; end = end; is = cc (frequency-centred band s w allowed width end) })
+    (λ end. refused-not-centred _ f (sym (frequency-end band s w allowed width end) ∙ h)))
+    (λ width. refused-not-centred _ f (sym (frequency-width band s w allowed width) ∙ h)))
+    (λ allowed. refused-not-centred _ f (sym (frequency-outside band s w allowed) ∙ h))
 
-  -- in an allowed band, a width that is none: 9
-  pub frequency-width : allowedBand band ≡ true → allowedWidth (band .slots) w ≡ false → frequencyReply band s w ≡ frequency-reply.Refused (BadWidth 0)
-  unfolding frequencyReply
-  frequency-width h k = rw (h, k)
+-- two numbers that have a block: the band is allowed, they name a block, and the block is that one
+pub record Finds (band : Band) (n : ℤ) (m : ℕ) (b : Block) : Type 0 where
+  pub allowed : allowedBand band ≡ true
+  pub named : namesBlock band n m ≡ true
+  pub is : b ≡ record { start = halfOf (gapOf (band .n0) n m); width = m }
 
-  -- then an end above the slot count: 17
-  pub frequency-end : allowedBand band ≡ true → allowedWidth (band .slots) w ≡ true → endWithin (band .slots) s w ≡ false → frequencyReply band s w ≡ frequency-reply.Refused (EndAbove 0)
-  unfolding frequencyReply
-  frequency-end h k l = rw (h, k, l)
+-- a refusal is no block
+refused-not-found : {X : Type 0} (r : Refusal) (b : Block) → block-reply.Refused r ≡ block-reply.Found b → X
+refused-not-found r b h = absurd (let no : _≡_ {A = ℕ} 0 1 = cc in omega arith)
 
-  -- every other block has its frequency
-  pub frequency-centred : allowedBand band ≡ true → allowedWidth (band .slots) w ≡ true → endWithin (band .slots) s w ≡ true → frequencyReply band s w ≡ frequency-reply.Centred (frequencyOf (band .n0) s w)
-  unfolding frequencyReply
-  frequency-centred h k l = rw (h, k, l)
+-- a reply that holds a block comes of two numbers that have it
+pub finds : (band : Band) (n : ℤ) (m : ℕ) (b : Block) → blockReply band n m ≡ block-reply.Found b → Finds band n m b
+finds band n m b h =
+    by-test (allowedBand band)
+    (λ allowed.
+    by-test (namesBlock band n m)
+    (λ named. record { allowed = allowed; named = named; is = cc (block-found band n m allowed named) })
+    (λ named. refused-not-found _ b (sym (block-none band n m allowed named) ∙ h)))
+    (λ allowed. refused-not-found _ b (sym (block-outside band n m allowed) ∙ h))
 
--- a width w within S: an end is within S when the start is within what w leaves of S
-pub room-left : (S s w : ℕ) → w ≤ S → leb s (S - w) ≡ endWithin S s w
-room-left S s w h =
-    by-test (leb s (S - w))
-    (λ fits. fits ∙ sym (le-leb (s + w) S (omega (arith, leb-true s (S - w) fits))))
-    (λ not-fits. not-fits ∙ sym (lt-leb (s + w) S (omega (arith, leb-false s (S - w) not-fits))))
+-- ---- there and back
 
-module _ (band : Band) (n : ℤ) (m : ℕ) where
-  -- a band outside its limits: 4
-  pub block-outside : allowedBand band ≡ false → blockReply band n m ≡ block-reply.Refused (BandOutside 0)
-  unfolding blockReply
-  block-outside h = rw h
+-- in an allowed band, the numbers of a block whose width and end are allowed name that block
+pub block-names-itself : (band : Band) (s w : ℕ) → allowedBand band ≡ true → allowedWidth (band .slots) w ≡ true → endWithin (band .slots) s w ≡ true → blockReply band (centralNumber (band .n0) s w) w ≡ block-reply.Found (record { start = s; width = w })
+block-names-itself band s w allowed width end =
+    let gap = gap-of-block (band .n0) s w in
+    let even : evenNatural (gapOf (band .n0) (centralNumber (band .n0) s w) w) ≡ true =
+    ap evenNatural gap ∙ eq-eqb (2 * s % 2) 0 (omega arith) in
+    let half : halfOf (gapOf (band .n0) (centralNumber (band .n0) s w) w) ≡ s =
+    ap halfOf gap ∙ omega arith in
+    block-found band (centralNumber (band .n0) s w) w allowed
+    (named-end band (centralNumber (band .n0) s w) w width even ∙ ap (λ (h : ℕ). endWithin (band .slots) h w) half ∙ end) ∙
+    ap (λ (h : ℕ). block-reply.Found (record { start = h; width = w })) half
 
-  -- in an allowed band, numbers that no block has: 19
-  pub block-none : allowedBand band ≡ true → namesBlock band n m ≡ false → blockReply band n m ≡ block-reply.Refused (NoBlock 0)
-  unfolding blockReply
-  block-none h k = rw (h, k)
+-- a block turned into its frequency and back is the same block
+pub block-and-back : (band : Band) (s w : ℕ) (f : Frequency) → frequencyReply band s w ≡ frequency-reply.Centred f → blockReply band (f .n) (f .m) ≡ block-reply.Found (record { start = s; width = w })
+block-and-back band s w f h =
+    let c = centres band s w f h in
+    ap (λ (g : Frequency). blockReply band (g .n) (g .m)) (c .is) ∙
+    block-names-itself band s w (c .allowed) (c .width) (c .end)
 
-  -- every other pair of numbers has its block
-  pub block-found : allowedBand band ≡ true → namesBlock band n m ≡ true → blockReply band n m ≡ block-reply.Found (record { start = halfOf (gapOf (band .n0) n m); width = m })
-  unfolding blockReply
-  block-found h k = rw (h, k)
+-- two numbers turned into their block and back are the same numbers
+pub numbers-and-back : (band : Band) (n : ℤ) (m : ℕ) (b : Block) → blockReply band n m ≡ block-reply.Found b → frequencyReply band (b .start) (b .width) ≡ frequency-reply.Centred (record { n = n; m = m; mhz = centralMHz n })
+numbers-and-back band n m b h =
+    let f = finds band n m b h in
+    let gap = gapOf (band .n0) n m in
+    let width = first-of-both (allowedWidth (band .slots) m) (evenNatural gap && endWithin (band .slots) (halfOf gap) m) (f .named) in
+    let rest = second-of-both (allowedWidth (band .slots) m) (evenNatural gap && endWithin (band .slots) (halfOf gap) m) (f .named) in
+    let even = first-of-both (evenNatural gap) (endWithin (band .slots) (halfOf gap) m) rest in
+    let end = second-of-both (evenNatural gap) (endWithin (band .slots) (halfOf gap) m) rest in
+    ap (λ (k : Block). frequencyReply band (k .start) (k .width)) (f .is) ∙
+    frequency-centred band (halfOf gap) m (f .allowed) width end ∙
+    ap (λ (k : ℤ). frequency-reply.Centred (record { n = k; m = m; mhz = centralMHz k })) (block-of-gap (band .n0) n m even)
 
-  -- a width number outside 1 to S names no block
-  pub unnamed-width : allowedWidth (band .slots) m ≡ false → namesBlock band n m ≡ false
-  unnamed-width h = rw h
+-- two numbers that are accepted are those of one block only
+pub one-block : (band : Band) (n : ℤ) (m : ℕ) (b : Block) → blockReply band n m ≡ block-reply.Found b → (s w : ℕ) (f : Frequency) → frequencyReply band s w ≡ frequency-reply.Centred f → f .n ≡ n → f .m ≡ m → record { start = s; width = w } ≡ b
+one-block band n m b h s w f k at-n at-m =
+    let back : blockReply band n m ≡ block-reply.Found (record { start = s; width = w }) =
+    rw (at-n, at-m) at (block-and-back band s w f k) in
+    cc
 
-  -- nor does a gap that is odd or negative
-  pub unnamed-gap : allowedWidth (band .slots) m ≡ true → evenNatural (gapOf (band .n0) n m) ≡ false → namesBlock band n m ≡ false
-  unnamed-gap h k = rw (h, k)
+-- two blocks of a band with the same n and m are the same block
+pub blocks-apart : (band : Band) (s w s′ w′ : ℕ) (f f′ : Frequency) → frequencyReply band s w ≡ frequency-reply.Centred f → frequencyReply band s′ w′ ≡ frequency-reply.Centred f′ → f .n ≡ f′ .n → f .m ≡ f′ .m → (s ≡ s′) × (w ≡ w′)
+blocks-apart band s w s′ w′ f f′ h k at-n at-m =
+    let same = one-block band (f′ .n) (f′ .m) (record { start = s′; width = w′ }) (block-and-back band s′ w′ f′ k) s w f h at-n at-m in
+    (ap (λ (b : Block). b .start) same, ap (λ (b : Block). b .width) same)
 
-  -- where both are right, the end decides
-  pub named-end : allowedWidth (band .slots) m ≡ true → evenNatural (gapOf (band .n0) n m) ≡ true → namesBlock band n m ≡ endWithin (band .slots) (halfOf (gapOf (band .n0) n m)) m
-  named-end h k = rw (h, k)
+-- ---- each call has one right answer: two results that meet its contract are equal
+
+-- of `Band::new`
+pub same-band : (n0 : ℤ) (S G : ℕ) (r r′ : BandReply) → r ≡ bandReply n0 S G → r′ ≡ bandReply n0 S G → r ≡ r′
+same-band n0 S G r r′ h k = h ∙ sym k
+
+-- of `Band::allowed`
+pub same-allowed : (band : Band) (r r′ : Bool) → r ≡ allowedBand band → r′ ≡ allowedBand band → r ≡ r′
+same-allowed band r r′ h k = h ∙ sym k
+
+-- of `to_frequency`
+pub same-frequency : (band : Band) (s w : ℕ) (r r′ : FrequencyReply) → r ≡ frequencyReply band s w → r′ ≡ frequencyReply band s w → r ≡ r′
+same-frequency band s w r r′ h k = h ∙ sym k
+
+-- of `from_frequency`
+pub same-block : (band : Band) (n : ℤ) (m : ℕ) (r r′ : BlockReply) → r ≡ blockReply band n m → r′ ≡ blockReply band n m → r ≡ r′
+same-block band n m r r′ h k = h ∙ sym k

@@ -1,2 +1,3 @@
--- The definitions of the refusals.
+-- The definitions of the refusals, and their laws.
 pub mod Refusal
+pub mod RefusalLaws

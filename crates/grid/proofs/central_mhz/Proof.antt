@@ -1,8 +1,7 @@
 -- `grid::central_mhz` meets its contract: 64 bits hold it at every n of 32 bits. Assumes nothing.
 use borrow.Author.Needs.{needs}
 use native.Mathlib.Omega.{arith}
-use lib.IntN.{pos, _+ℤ_, _*ℤ_}
-use lib.Signed.{mag}
+use lib.IntN.{pos, _*ℤ_}
 use mir.Syntax.{w32, w64}
 use mir.Val.{SFits}
 use mir.Facts.{toZ-ofZ}

@@ -3,7 +3,6 @@ use borrow.Author.Needs.{needs}
 use native.Mathlib.Omega.{arith}
 use Prim.Native.Nat.{_+_, _*_}
 use lib.IntN.{pos, _+ℤ_}
-use lib.Signed.{mag}
 use mir.Syntax.{w16, w32}
 use mir.Val.{SFits}
 use mir.Facts.{toZ-ofZ, toZ-pos}

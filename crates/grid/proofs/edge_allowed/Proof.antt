@@ -1,13 +1,12 @@
 -- `grid::edge_allowed` meets its contract. Assumes nothing.
 use mathlib.Core.Path.{_≡_}
 use mathlib.Core.Bool.{true, false}
-use borrow.Author.Needs.{needs}
 use lib.IntN.{pos, negsuc}
 use lib.Signed.{leZ}
 use mir.ValLaws.{toZ-ofZ}
-use mir.Val.{toZ, ofZ, SFits}
+use mir.Val.{toZ, ofZ}
 use mir.Syntax.{w16}
-use Rattle.grid.specs.GridLaws.{both-if, not-both}
+use Rattle.grid.specs.ReplyLaws.{both-if, not-both}
 use Rattle.grid.proofs.edge_allowed.Statement.{statement}
 use Rattle.grid.proofs.edge_allowed.Tie as tie
 

@@ -4,7 +4,7 @@ use borrow.Author.Tests.{lt-leb}
 use native.Mathlib.Omega.{arith}
 use Prim.Native.Nat.{_+_}
 use mathlib.Core.Path.{sym}
-use Rattle.grid.specs.GridLaws.{room-left}
+use Rattle.grid.specs.ReplyLaws.{room-left}
 use Rattle.grid.proofs.end_within.Statement.{statement}
 use Rattle.grid.proofs.end_within.Tie as tie
 

@@ -8,8 +8,8 @@ use borrow.Author.Tests.{not-true, not-false, leb-true}
 use mir.Facts.{toZ-ofZ}
 use mir.Val.{toZ, ofZ}
 use mir.Syntax.{w16, w64}
-use Rattle.grid.specs.Grid.{allowedBand, allowedWidth, endWithin, gapOf, evenNatural, halfOf, namesBlock}
-use Rattle.grid.specs.GridLaws.{block-outside, block-none, block-found, unnamed-width, unnamed-gap, named-end}
+use Rattle.grid.specs.Grid.{allowedBand, allowedWidth, endWithin, gapOf, evenNatural, halfOf}
+use Rattle.grid.specs.ReplyLaws.{block-outside, block-none, block-found, unnamed-width, unnamed-gap, named-end}
 use Rattle.grid.proofs.from_frequency.Statement.{statement}
 use Rattle.grid.proofs.from_frequency.Tie as tie
 

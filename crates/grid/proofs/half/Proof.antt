@@ -1,10 +1,8 @@
 -- `grid::half` meets its contract. Assumes nothing.
 use native.Mathlib.Omega.{arith}
-use mathlib.Core.Path.{_≡_}
 use lib.IntN.{pos}
-use lib.Signed.{mag, quotZ}
 use mir.Syntax.{w64}
-use mir.Val.{toZ, ofZ, SFits}
+use mir.Val.{SFits}
 use mir.Facts.{toZ-ofZ}
 use Rattle.grid.specs.Grid.{halfOf}
 use Rattle.grid.specs.SignedLaws.{mag-half, half-below, half-is}

@@ -8,7 +8,7 @@ use mir.Facts.{toZ-ofZ}
 use mir.Val.{toZ, ofZ}
 use mir.Syntax.{w16, w32, w64}
 use Rattle.grid.specs.Grid.{allowedBand, allowedWidth, endWithin, centralNumber, centralMHz}
-use Rattle.grid.specs.GridLaws.{frequency-outside, frequency-width, frequency-end, frequency-centred}
+use Rattle.grid.specs.ReplyLaws.{frequency-outside, frequency-width, frequency-end, frequency-centred}
 use Rattle.grid.proofs.to_frequency.Statement.{statement}
 use Rattle.grid.proofs.to_frequency.Tie as tie
 

@@ -1,7 +1,7 @@
 -- `grid::width_allowed` meets its contract. Assumes nothing.
 use borrow.Author.Tests.{le-leb, lt-leb}
 use lib.Dec.{leb}
-use Rattle.grid.specs.GridLaws.{both-if, not-both}
+use Rattle.grid.specs.ReplyLaws.{both-if, not-both}
 use Rattle.grid.proofs.width_allowed.Statement.{statement}
 use Rattle.grid.proofs.width_allowed.Tie as tie
 

@@ -2,12 +2,11 @@
 use mathlib.Core.Path.{_≡_, sym, _∙_}
 use mathlib.Core.Bool.{true, false, _&&_}
 use borrow.Author.Needs.{needs}
-use lib.Dec.{leb}
 use mir.ValLaws.{toZ-ofZ}
 use mir.Val.{toZ, ofZ, SFits}
 use mir.Syntax.{w16}
 use Rattle.grid.specs.Grid.{allowedEdge, allowedSlots, allowedGuard}
-use Rattle.grid.specs.GridLaws.{both-if, not-both}
+use Rattle.grid.specs.ReplyLaws.{both-if, not-both}
 use Rattle.grid.proofs.Band.allowed.Statement.{statement}
 use Rattle.grid.proofs.Band.allowed.Tie as tie
 

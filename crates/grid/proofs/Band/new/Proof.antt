@@ -1,12 +1,12 @@
 -- `grid::Band::new` meets its contract. Assumes nothing.
-use mathlib.Core.Path.{_≡_, sym, _∙_, ap}
+use mathlib.Core.Path.{sym, _∙_, ap}
 use borrow.Author.Needs.{needs}
 use lib.IntN.{ℤ}
 use mir.Facts.{toZ-ofZ}
 use mir.Val.{toZ, ofZ}
 use mir.Syntax.{w16}
 use Rattle.grid.specs.Grid.{bandReply}
-use Rattle.grid.specs.GridLaws.{band-allowed, band-outside}
+use Rattle.grid.specs.ReplyLaws.{band-allowed, band-outside}
 use Rattle.grid.proofs.Band.new.Statement.{statement}
 use Rattle.grid.proofs.Band.new.Tie as tie
 
