@@ -17,19 +17,28 @@ use Rattle.plan.specs.Plan.{startAt}
 unfoldable pub checkCount : ℕ → List ℕ → Checked
 checkCount K starts = cond (ltb (length starts) K) (Refused (NoRow (length starts))) Sound
 
+-- 17 at listing position k: the end is above S
+unfoldable pub checkEnd : ℕ → List ℕ → ℕ → DemandView → Checked
+unfolding startAt
+checkEnd S starts k d = cond (ltb S (startAt starts k + d .width)) (Refused (EndAbove k)) Sound
+
 -- 17 at the lowest listing position whose end is above S
 unfoldable pub checkEnds : ℕ → List ℕ → ℕ → List DemandView → Checked
-unfolding then startAt
+unfolding then checkEnd
 checkEnds S starts k [] = Sound
-checkEnds S starts k (d ∷ demands) =
-    then (cond (ltb S (startAt starts k + d .width)) (Refused (EndAbove k)) Sound) (checkEnds S starts (k + 1) demands)
+checkEnds S starts k (d ∷ demands) = then (checkEnd S starts k d) (checkEnds S starts (k + 1) demands)
 
--- 18 at the lowest listing position that clashes with an earlier one; the rows are the demands before it
+-- 18 at listing position k: it clashes with one of the rows, the demands before it
+unfoldable pub checkClash : Problem → List ℕ → List Row → ℕ → Checked
+unfolding startAt fits
+checkClash P starts rows k = cond (fits P rows k (startAt starts k)) Sound (Refused (Clash k))
+
+-- 18 at the lowest listing position that clashes with an earlier one
 unfoldable pub checkClashes : Problem → List ℕ → List Row → ℕ → List DemandView → Checked
-unfolding then startAt fits
+unfolding then checkClash startAt
 checkClashes P starts rows k [] = Sound
 checkClashes P starts rows k (d ∷ demands) =
-    then (cond (fits P rows k (startAt starts k)) Sound (Refused (Clash k)))
+    then (checkClash P starts rows k)
     (checkClashes P starts (record { who = k; at = startAt starts k } ∷ rows) (k + 1) demands)
 
 -- 17, then 18, of as many starts as there are demands

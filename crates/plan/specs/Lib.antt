@@ -2,3 +2,4 @@
 pub mod Plan
 pub mod CheckStarts
 pub mod PlanLaws
+pub mod CheckStartsLaws

@@ -3,7 +3,7 @@ use Prim.Native.Nat.{ℕ, _+_, _-_, _<_, _≤_}
 use mathlib.Core.Bool.{Bool, true, false}
 use mathlib.Core.List.{List, [], _∷_, List·Memᴰ}
 use mathlib.Core.Logic.{_⊎_, inl, inr, ⊎-elim, _≢_}
-use mathlib.Core.Path.{_≡_, refl, sym, subst}
+use mathlib.Core.Path.{_≡_, refl, sym, subst, _∙_}
 use native.Mathlib.Omega.{arith}
 use lib.ListN.{length, getD}
 use lib.Dec.{eqb}
@@ -54,6 +54,7 @@ parted-blocks G s w t u hw hu parted =
   where
     same : (x : ℕ) → Parted G x x → ⊥
     same x p = ⊎-elim (λ a. omega arith) (λ b. omega arith) p
+
     overlap : t + G < s + w - 1 → s + G < t + u - 1 → ⊥
     overlap above under =
         by-test (lib.Dec.leb s t)
@@ -78,23 +79,26 @@ module _ (v : View) (starts : List ℕ) (sound : SoundRequest v)
       record {
         within = λ i m. ends i (listing-below (v .demandCount) i m);
         clear-of-rows = λ i m. fits-nil (problemOf v) i (startAt starts i);
-        clear-of-others = λ i j m n different. clear i j (listing-below (v .demandCount) i m) (listing-below (v .demandCount) j n) different
+        clear-of-others = λ i j m n different. clear i j (listing-below (v .demandCount) i m) (listing-below (v .demandCount) j n) different;
       }
     where
       width : ℕ → ℕ
       width i = demandAt (v .demands) i .width
+
       route : ℕ → List ℕ
       route i = demandAt (v .demands) i .route
+
       ends : (i : ℕ) → i < v .demandCount → startAt starts i + width i ≤ v .band .slots
       ends i h =
           let d = sound .demands-sound i h in
           let last = plan .inside i (getD (route i) 0 0) (startAt starts i + width i - 1) h
-              (record {
-                on-route = first-link (demandAt (v .demands) i .hops) (route i) (whole i h) (d .some-hop);
-                from-start = omega (arith, d .some-width);
-                below-end = omega (arith, d .some-width)
-              }) in
+          (record {
+            on-route = first-link (demandAt (v .demands) i .hops) (route i) (whole i h) (d .some-hop);
+            from-start = omega (arith, d .some-width);
+            below-end = omega (arith, d .some-width);
+          }) in
           omega (arith, d .some-width)
+
       clear : (i j : ℕ) → i < v .demandCount → j < v .demandCount → i ≢ j → apart (problemOf v) i (startAt starts i) j (startAt starts j) ≡ true
       clear i j hi hj different =
           by-test (shareLink (route i) (route j))
@@ -119,6 +123,15 @@ sharing link (x ∷ a) b h k =
     (λ t. let here : has x b ≡ true = subst (λ (l : ℕ). has l b ≡ true) (eqb-true link x t) k in rw here)
     (λ f. let later : has link a ≡ true = rw f at h in rw (sharing link a b later k, mathlib.Core.Bool.or-true))
 
+-- sharing a link goes both ways
+pub share-swap : (a b : List ℕ) → shareLink a b ≡ shareLink b a
+share-swap a b =
+    by-test (shareLink a b)
+    (λ t. let link = shared-link a b t in t ∙ sym (sharing (link .0) b a (link .2) (link .1)))
+    (λ f. by-test (shareLink b a)
+    (λ t. let link = shared-link b a t in sharing (link .0) a b (link .2) (link .1) ∙ sym t)
+    (λ g. f ∙ sym g))
+
 module _ (v : View) (starts : List ℕ) where
   -- a plan that is allowed by its ends and starts is allowed by its slots
   pub ends-to-slots : Allowed (problemOf v) (v .band .slots) [] (listing (v .demandCount)) (startAt starts) → AllowedPlan v starts
@@ -133,5 +146,5 @@ module _ (v : View) (starts : List ℕ) where
             (apart-cases (problemOf v) i (startAt starts i) j (startAt starts j)
             (plan .clear-of-others i j (listing-mem (v .demandCount) i hi) (listing-mem (v .demandCount) j hj) different)
             (sharing link (demandAt (v .demands) i .route) (demandAt (v .demands) j .route) (a .on-route) (b .on-route)))
-            (a .from-start) (a .below-end) (b .from-start) (b .below-end)
+            (a .from-start) (a .below-end) (b .from-start) (b .below-end);
       }

@@ -1,0 +1,183 @@
+-- The check of starts accepts exactly the allowed plans.
+use Prim.Native.Nat.{ℕ, zero, suc, _+_, _-_, _<_, _≤_, max}
+use mathlib.Core.Bool.{Bool, true, false, cond}
+use mathlib.Core.List.{List, [], _∷_, List·Memᴰ, List·Memᴰ·head, List·Memᴰ·tail, List·Memᴰ·cases-cons, List·Memᴰ·not-nil}
+use mathlib.Core.Logic.{_⊎_, inl, inr, ⊎-elim, _≢_}
+use mathlib.Core.Path.{_≡_, refl, sym, subst, _∙_}
+use native.Mathlib.Omega.{arith}
+use native.Mathlib.Numerals.{add-one}
+use lib.ListN.{length, getD}
+use lib.Dec.{leb, ltb}
+use borrow.Author.Tests.{ltb-true, ltb-false, le-ltb}
+use Rattle.refusal.specs.declared.Refusal.{Refusal}
+use Rattle.refusal.specs.declared.Refusal.the-variants.{NoRow, EndAbove, Clash}
+use Rattle.theory.specs.Problem.{Problem, Row, endOf, apart, fits, Allowed}
+use Rattle.theory.specs.ProblemLaws.{fits-nil, fits-with, fits-first, fits-rest, fits-apart, apart-fits}
+use Rattle.theory.specs.ApartLaws.{apart-swap}
+use Rattle.theory.specs.TestLaws.{by-test, not-both}
+use Rattle.theory.specs.Orders.{listing}
+use Rattle.theory.specs.ListingLaws.{listing-below, listing-mem}
+use Rattle.request.specs.declared.Checked.{Checked}
+use Rattle.request.specs.declared.Checked.the-variants.{Sound, Refused}
+use Rattle.request.specs.View.{DemandView, View, demandAt, noDemand}
+use Rattle.request.specs.Check.{then, check}
+use Rattle.placing.specs.Placing.{shareLink, problemOf}
+use Rattle.plan.specs.Plan.{startAt}
+use Rattle.plan.specs.PlanLaws.{share-swap}
+use Rattle.plan.specs.CheckStarts.{checkCount, checkEnd, checkEnds, checkClash, checkClashes, checkPlaces, checkStarts}
+
+-- a refusal is not a pass
+refused-not-sound : {C : Type 0} (why : Refusal) → Refused why ≡ Sound → C
+refused-not-sound why e = absurd (let z : _≡_ {A = ℕ} 0 1 = cc in omega arith)
+
+-- two checks pass one after the other exactly when each passes
+pub then-first : (a b : Checked) → then a b ≡ Sound → a ≡ Sound
+unfolding then
+then-first Sound b h = refl
+then-first (Refused why) b h = h
+
+pub then-second : (a b : Checked) → then a b ≡ Sound → b ≡ Sound
+unfolding then
+then-second Sound b h = h
+then-second (Refused why) b h = refused-not-sound why h
+
+pub then-both : (a b : Checked) → a ≡ Sound → b ≡ Sound → then a b ≡ Sound
+unfolding then
+then-both a b h k = rw (h, k)
+
+-- a check that refuses where a test is false passes exactly where it is true
+pub passes-if : (t : Bool) (why : Refusal) → t ≡ true → cond t Sound (Refused why) ≡ Sound
+passes-if t why h = rw h
+
+pub if-passes : (t : Bool) (why : Refusal) → cond t Sound (Refused why) ≡ Sound → t ≡ true
+if-passes true why h = refl
+if-passes false why h = refused-not-sound why h
+
+-- a check that refuses where a test is true passes exactly where it is false
+pub passes-unless : (t : Bool) (why : Refusal) → t ≡ false → cond t (Refused why) Sound ≡ Sound
+passes-unless t why h = rw h
+
+pub unless-passes : (t : Bool) (why : Refusal) → cond t (Refused why) Sound ≡ Sound → t ≡ false
+unless-passes true why h = refused-not-sound why h
+unless-passes false why h = refl
+
+-- 17 passes: each end is at most S
+pub ends-within : (S : ℕ) (starts : List ℕ) (k : ℕ) (demands : List DemandView) → checkEnds S starts k demands ≡ Sound →
+    (p : ℕ) → p < length demands → startAt starts (k + p) + demandAt demands p .width ≤ S
+unfolding checkEnds checkEnd demandAt
+ends-within S starts k [] h p l = absurd (omega arith)
+ends-within S starts k (d ∷ demands) h zero l =
+    subst (λ (n : ℕ). startAt starts n + d .width ≤ S) (omega arith)
+    (ltb-false S (startAt starts k + d .width)
+    (unless-passes (ltb S (startAt starts k + d .width)) (EndAbove k)
+    (then-first (checkEnd S starts k d) (checkEnds S starts (k + 1) demands) h)))
+ends-within S starts k (d ∷ demands) h (suc p) l =
+    subst (λ (n : ℕ). startAt starts n + demandAt demands p .width ≤ S) (omega arith)
+    (ends-within S starts (k + 1) demands (then-second (checkEnd S starts k d) (checkEnds S starts (k + 1) demands) h) p (omega arith))
+
+-- each end is at most S: 17 passes
+pub within-ends : (S : ℕ) (starts : List ℕ) (k : ℕ) (demands : List DemandView) →
+    ((p : ℕ) → p < length demands → startAt starts (k + p) + demandAt demands p .width ≤ S) → checkEnds S starts k demands ≡ Sound
+unfolding checkEnds checkEnd demandAt
+within-ends S starts k [] h = refl
+within-ends S starts k (d ∷ demands) h =
+    then-both (checkEnd S starts k d) (checkEnds S starts (k + 1) demands)
+    (passes-unless (ltb S (startAt starts k + d .width)) (EndAbove k)
+    (le-ltb S (startAt starts k + d .width) (subst (λ (n : ℕ). startAt starts n + d .width ≤ S) (omega arith) (h 0 (omega arith)))))
+    (within-ends S starts (k + 1) demands
+    (λ p l. subst (λ (n : ℕ). startAt starts n + demandAt demands p .width ≤ S) (omega arith) (h (suc p) (omega arith))))
+
+-- 18 passes: each demand is clear of the rows, and apart from each later demand
+pub clashes-none : (P : Problem) (starts : List ℕ) (rows : List Row) (k : ℕ) (demands : List DemandView) →
+    checkClashes P starts rows k demands ≡ Sound → (p : ℕ) → p < length demands →
+    (fits P rows (k + p) (startAt starts (k + p)) ≡ true)
+    × ((q : ℕ) → p < q → q < length demands → apart P (k + p) (startAt starts (k + p)) (k + q) (startAt starts (k + q)) ≡ true)
+unfolding checkClashes checkClash
+clashes-none P starts rows k [] h p l = absurd (omega arith)
+clashes-none P starts rows k (d ∷ demands) h zero l = (
+  subst (λ (n : ℕ). fits P rows n (startAt starts n) ≡ true) (omega arith)
+      (if-passes (fits P rows k (startAt starts k)) (Clash k) (then-first (checkClash P starts rows k) (checkClashes P starts (here ∷ rows) (k + 1) demands) h)),
+  λ q a b. subst (λ (n : ℕ). apart P n (startAt starts n) (k + q) (startAt starts (k + q)) ≡ true) (omega arith)
+      (subst (λ (n : ℕ). apart P k (startAt starts k) n (startAt starts n) ≡ true) (omega arith)
+      (fits-first P here rows (k + 1 + (q - 1)) (startAt starts (k + 1 + (q - 1)))
+      (clashes-none P starts (here ∷ rows) (k + 1) demands
+      (then-second (checkClash P starts rows k) (checkClashes P starts (here ∷ rows) (k + 1) demands) h) (q - 1) (omega arith) .0))),
+)
+  where
+    here : Row
+    here = record { who = k; at = startAt starts k }
+clashes-none P starts rows k (d ∷ demands) h (suc p) l =
+    let later = clashes-none P starts (record { who = k; at = startAt starts k } ∷ rows) (k + 1) demands
+    (then-second (checkClash P starts rows k) (checkClashes P starts (record { who = k; at = startAt starts k } ∷ rows) (k + 1) demands) h) p (omega arith) in (
+      subst (λ (n : ℕ). fits P rows n (startAt starts n) ≡ true) (omega arith)
+          (fits-rest P (record { who = k; at = startAt starts k }) rows (k + 1 + p) (startAt starts (k + 1 + p)) (later .0)),
+      λ q a b. subst (λ (n : ℕ). apart P n (startAt starts n) (k + q) (startAt starts (k + q)) ≡ true) (omega arith)
+          (subst (λ (n : ℕ). apart P (k + 1 + p) (startAt starts (k + 1 + p)) n (startAt starts n) ≡ true) (omega arith)
+          (later .1 (q - 1) (omega arith) (omega arith))),
+    )
+
+-- each demand is clear of the rows, and apart from each later demand: 18 passes
+pub none-clash : (P : Problem) (starts : List ℕ) (rows : List Row) (k : ℕ) (demands : List DemandView) →
+    ((p : ℕ) → p < length demands → fits P rows (k + p) (startAt starts (k + p)) ≡ true) →
+    ((p q : ℕ) → p < q → q < length demands → apart P (k + p) (startAt starts (k + p)) (k + q) (startAt starts (k + q)) ≡ true) →
+    checkClashes P starts rows k demands ≡ Sound
+unfolding checkClashes checkClash
+none-clash P starts rows k [] clear apart-each = refl
+none-clash P starts rows k (d ∷ demands) clear apart-each =
+    then-both (checkClash P starts rows k) (checkClashes P starts (record { who = k; at = startAt starts k } ∷ rows) (k + 1) demands)
+    (passes-if (fits P rows k (startAt starts k)) (Clash k)
+    (subst (λ (n : ℕ). fits P rows n (startAt starts n) ≡ true) (omega arith) (clear 0 (omega arith))))
+    (none-clash P starts (record { who = k; at = startAt starts k } ∷ rows) (k + 1) demands
+    (λ p l. fits-with P (record { who = k; at = startAt starts k }) rows (k + 1 + p) (startAt starts (k + 1 + p))
+    (subst (λ (n : ℕ). apart P k (startAt starts k) n (startAt starts n) ≡ true) (omega arith)
+    (subst (λ (n : ℕ). apart P n (startAt starts n) (k + suc p) (startAt starts (k + suc p)) ≡ true) (omega arith)
+    (apart-each 0 (suc p) (omega arith) (omega arith))))
+    (subst (λ (n : ℕ). fits P rows n (startAt starts n) ≡ true) (omega arith) (clear (suc p) (omega arith))))
+    (λ p q a b. subst (λ (n : ℕ). apart P n (startAt starts n) (k + 1 + q) (startAt starts (k + 1 + q)) ≡ true) (omega arith)
+    (subst (λ (n : ℕ). apart P (k + suc p) (startAt starts (k + suc p)) n (startAt starts n) ≡ true) (omega arith)
+    (apart-each (suc p) (suc q) (omega arith) (omega arith)))))
+
+module _ (v : View) (starts : List ℕ) (counted : length (v .demands) ≡ v .demandCount) where
+  -- 17 and 18 pass: the plan is allowed by its ends and starts
+  pub places-allowed : checkPlaces v starts ≡ Sound →
+      Allowed (problemOf v) (v .band .slots) [] (listing (v .demandCount)) (startAt starts)
+  unfolding checkPlaces problemOf endOf
+  places-allowed h =
+      record {
+        within = λ i m. subst (λ (n : ℕ). startAt starts n + demandAt (v .demands) i .width ≤ v .band .slots) (omega arith)
+            (ends-within (v .band .slots) starts 0 (v .demands)
+            (then-first (checkEnds (v .band .slots) starts 0 (v .demands)) (checkClashes (problemOf v) starts [] 0 (v .demands)) h)
+            i (omega (arith, listing-below (v .demandCount) i m)));
+        clear-of-rows = λ i m. fits-nil (problemOf v) i (startAt starts i);
+        clear-of-others = λ i j m n different.
+            by-test (ltb i j)
+            (λ t. ordered i j (ltb-true i j t) (listing-below (v .demandCount) j n))
+            (λ f. apart-swap (problemOf v) i (startAt starts i) j (startAt starts j) (share-swap (demandAt (v .demands) i .route) (demandAt (v .demands) j .route))
+            ∙ ordered j i (strictly i j different (ltb-false i j f)) (listing-below (v .demandCount) i m));
+      }
+    where
+      strictly : (i j : ℕ) → i ≢ j → j ≤ i → j < i
+      strictly i j different l = omega arith
+
+      ordered : (i j : ℕ) → i < j → j < v .demandCount → apart (problemOf v) i (startAt starts i) j (startAt starts j) ≡ true
+      ordered i j a b =
+          subst (λ (n : ℕ). apart (problemOf v) n (startAt starts n) j (startAt starts j) ≡ true) (omega arith)
+          (subst (λ (n : ℕ). apart (problemOf v) (0 + i) (startAt starts (0 + i)) n (startAt starts n) ≡ true) (omega arith)
+          (clashes-none (problemOf v) starts [] 0 (v .demands)
+          (then-second (checkEnds (v .band .slots) starts 0 (v .demands)) (checkClashes (problemOf v) starts [] 0 (v .demands)) h)
+          i (omega arith) .1 j a (omega arith)))
+
+  -- the plan is allowed by its ends and starts: 17 and 18 pass
+  pub allowed-places : Allowed (problemOf v) (v .band .slots) [] (listing (v .demandCount)) (startAt starts) →
+      checkPlaces v starts ≡ Sound
+  unfolding checkPlaces problemOf endOf
+  allowed-places plan =
+      then-both (checkEnds (v .band .slots) starts 0 (v .demands)) (checkClashes (problemOf v) starts [] 0 (v .demands))
+      (within-ends (v .band .slots) starts 0 (v .demands)
+      (λ p l. subst (λ (n : ℕ). startAt starts n + demandAt (v .demands) p .width ≤ v .band .slots) (omega arith)
+      (plan .within p (listing-mem (v .demandCount) p (omega arith)))))
+      (none-clash (problemOf v) starts [] 0 (v .demands)
+      (λ p l. fits-nil (problemOf v) (0 + p) (startAt starts (0 + p)))
+      (λ p q a b. subst (λ (n : ℕ). apart (problemOf v) n (startAt starts n) (0 + q) (startAt starts (0 + q)) ≡ true) (omega arith)
+      (subst (λ (n : ℕ). apart (problemOf v) p (startAt starts p) n (startAt starts n) ≡ true) (omega arith)
+      (plan .clear-of-others p q (listing-mem (v .demandCount) p (omega arith)) (listing-mem (v .demandCount) q (omega arith)) (omega arith)))))
