@@ -8,6 +8,7 @@ pub mod ProblemLaws
 pub mod Scan
 pub mod ScanLaws
 pub mod FillLaws
+pub mod FirstFitLaws
 pub mod Orders
 pub mod Earlier
 pub mod OrdersLaws
