@@ -41,11 +41,11 @@ module _ (P : Problem) (S : ℕ) where
   placed-first rows i order out e =
       by-test (leb (endOf P i (lowest P rows i)) S)
       (λ l.
-        let h : endOf P i (lowest P rows i) ≤ S = leb-true (endOf P i (lowest P rows i)) S l in
-        (h, sym (firstFit-on rows i order h) ∙ e))
+      let h : endOf P i (lowest P rows i) ≤ S = leb-true (endOf P i (lowest P rows i)) S l in
+      (h, sym (firstFit-on rows i order h) ∙ e))
       (λ g.
-        let f = firstFit-refuses rows i order (leb-false (endOf P i (lowest P rows i)) S g) in
-        absurd (let z : _≡_ {A = ℕ} 0 1 = cc in omega arith))
+      let f = firstFit-refuses rows i order (leb-false (endOf P i (lowest P rows i)) S g) in
+      absurd (let z : _≡_ {A = ℕ} 0 1 = cc in omega arith))
 
   -- first fit along two orders in a row, the first of which it places
   pub firstFit-append : (rows : List Row) (front back : List ℕ) (out : List Row) → firstFit P S rows front ≡ placed out →
@@ -74,7 +74,7 @@ module _ (P : Problem) (S : ℕ) where
   -- if each demand's lowest start over those before it ends within S, first fit places all
   pub each-placed : (rows : List Row) (order : List ℕ) →
       ((before : List ℕ) (i : ℕ) (after : List ℕ) → order ≡ before ++ (i ∷ after) →
-        endOf P i (lowest P (fill P rows before) i) ≤ S) →
+      endOf P i (lowest P (fill P rows before) i) ≤ S) →
       firstFit P S rows order ≡ placed (fill P rows order)
   each-placed rows [] h = rw fill-nil (firstFit-nil rows)
   each-placed rows (j ∷ order) h =
@@ -119,16 +119,19 @@ module _ (P : Problem) (S : ℕ) where
   refused-at rows (j ∷ order) i e =
       by-test (leb (endOf P j (lowest P rows j)) S)
       (λ l.
-        let h : endOf P j (lowest P rows j) ≤ S = leb-true (endOf P j (lowest P rows j)) S l in
-        let (before, after, split, fine, above) = refused-at (place P rows j) order i (sym (firstFit-on rows j order h) ∙ e) in
-        (j ∷ before, after, ap (λ (o : List ℕ). j ∷ o) split,
+      let h : endOf P j (lowest P rows j) ≤ S = leb-true (endOf P j (lowest P rows j)) S l in
+      let (before, after, split, fine, above) = refused-at (place P rows j) order i (sym (firstFit-on rows j order h) ∙ e) in (
+        j ∷ before,
+        after,
+        ap (λ (o : List ℕ). j ∷ o) split,
         rw fill-cons (firstFit-on rows j before h ∙ fine),
-        rw fill-cons above))
+        rw fill-cons above,
+      ))
       (λ g.
-        let above : S < endOf P j (lowest P rows j) = leb-false (endOf P j (lowest P rows j)) S g in
-        let f = firstFit-refuses rows j order above in
-        let same : j ≡ i = cc in
-        ([], order, ap (λ (k : ℕ). k ∷ order) same, rw fill-nil (firstFit-nil rows), rw (fill-nil, ← same) above))
+      let above : S < endOf P j (lowest P rows j) = leb-false (endOf P j (lowest P rows j)) S g in
+      let f = firstFit-refuses rows j order above in
+      let same : j ≡ i = cc in
+      ([], order, ap (λ (k : ℕ). k ∷ order) same, rw fill-nil (firstFit-nil rows), rw (fill-nil, ← same) above))
 
   -- where first fit refuses a demand, no start at which it clashes with nothing placed so far ends within S
   pub refused-none : (rows : List Row) (order : List ℕ) (i : ℕ) → firstFit P S rows order ≡ refused i →

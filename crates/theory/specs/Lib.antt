@@ -9,6 +9,9 @@ pub mod Scan
 pub mod ScanLaws
 pub mod FillLaws
 pub mod FirstFitLaws
+pub mod ByStart
+pub mod ByStartLaws
+pub mod SufficesLaws
 pub mod Orders
 pub mod Earlier
 pub mod OrdersLaws
