@@ -1,2 +1,4 @@
--- A request as a problem of placing, and its bound.
+-- A request as a problem of placing, its bound, and when a plan is allowed.
 pub mod Placing
+pub mod Plan
+pub mod PlanLaws

@@ -11,7 +11,7 @@ use Rattle.request.specs.declared.Checked.the-variants.{Sound, Refused}
 use Rattle.request.specs.View.{DemandView, View}
 use Rattle.request.specs.Check.{check, then}
 use Rattle.placing.specs.Placing.{problemOf}
-use Rattle.plan.specs.Plan.{startAt}
+use Rattle.placing.specs.Plan.{startAt}
 
 -- 16, at how many starts there are: fewer than K
 unfoldable pub checkCount : ℕ → List ℕ → Checked

@@ -22,8 +22,8 @@ use Rattle.request.specs.declared.Checked.the-variants.{Sound, Refused}
 use Rattle.request.specs.View.{DemandView, View, demandAt, noDemand}
 use Rattle.request.specs.Check.{then, check}
 use Rattle.placing.specs.Placing.{shareLink, problemOf}
-use Rattle.plan.specs.Plan.{startAt}
-use Rattle.plan.specs.PlanLaws.{share-swap}
+use Rattle.placing.specs.Plan.{startAt}
+use Rattle.placing.specs.PlanLaws.{share-swap}
 use Rattle.plan.specs.CheckStarts.{checkCount, checkEnd, checkEnds, checkClash, checkClashes, checkPlaces, checkStarts}
 
 -- a refusal is not a pass

@@ -1,5 +1,3 @@
--- What an allowed plan is, how starts are checked, and what a plan is as a file.
-pub mod Plan
+-- How starts are checked, and what a plan is as a file.
 pub mod CheckStarts
-pub mod PlanLaws
 pub mod CheckStartsLaws

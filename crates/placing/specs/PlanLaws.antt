@@ -17,8 +17,8 @@ use Rattle.theory.specs.ListingLaws.{listing-below, listing-mem}
 use Rattle.request.specs.View.{DemandView, View, demandAt}
 use Rattle.request.specs.Check.{has}
 use Rattle.request.specs.Sound.{SoundDemand, SoundRequest}
 use Rattle.placing.specs.Placing.{shareLink, problemOf}
-use Rattle.plan.specs.Plan.{startAt, Holds, Parted, AllowedPlan}
+use Rattle.placing.specs.Plan.{startAt, Holds, Parted, AllowedPlan}
 
 -- what stands first in a list stands in it
 has-first : (a : ℕ) (route : List ℕ) → has a (a ∷ route) ≡ true
