@@ -12,6 +12,8 @@ pub mod FirstFitLaws
 pub mod ByStart
 pub mod ByStartLaws
 pub mod SufficesLaws
+pub mod Bound
+pub mod BoundLaws
 pub mod Orders
 pub mod Earlier
 pub mod OrdersLaws
