@@ -24,4 +24,6 @@ pub mod TriedLaws
 pub mod WalkLaws
 pub mod LimitLaws
 pub mod Search
+pub mod Promises
+pub mod SearchLaws
 pub mod ListingLaws

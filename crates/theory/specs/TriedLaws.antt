@@ -1,5 +1,5 @@
 -- Orders tried one after the other leave the first of the lowest in the lead.
-use Prim.Native.Nat.{ℕ, _≤_, _<_, max}
+use Prim.Native.Nat.{ℕ, _≤_, _<_}
 use mathlib.Core.Bool.{Bool, true, false, cond}
 use mathlib.Core.List.{List, [], _∷_, _++_, map, List·Memᴰ, List·Memᴰ·head, List·Memᴰ·tail, List·Memᴰ·cases-cons, List·Memᴰ·append-cases, List·Memᴰ·not-nil, append-assoc}
 use mathlib.Core.Logic.{_⊎_, inl, inr, ⊎-elim}
@@ -7,37 +7,25 @@ use mathlib.Core.Path.{_≡_, refl, sym, _∙_, ap, subst}
 use native.Mathlib.Omega.{arith}
 use borrow.Author.Tests.{ltb-true, ltb-false, lt-ltb, le-ltb, eqb-true, eqb-false}
 use lib.Dec.{ltb, eqb}
-use Rattle.theory.specs.Problem.{Problem, Row, place, fill, top, endOf}
+use Rattle.theory.specs.Problem.{Problem, Row, place, fill, top}
+use Rattle.theory.specs.TestLaws.{by-test}
+use Rattle.theory.specs.ProblemLaws.{top-fill}
 use Rattle.theory.specs.Walk.{Best, met}
 use Rattle.theory.specs.Tried.{Lead, endsAt, leadBy, try, FirstLowest, Leads, unbeaten, taken}
 
 -- a number is below another or not
 pub below-or-not : (a b : ℕ) → (a < b) ⊎ (b ≤ a)
-below-or-not a b = by (ltb a b) refl
-  where
-    by : (test : Bool) → ltb a b ≡ test → (a < b) ⊎ (b ≤ a)
-    by true e = inl (ltb-true a b e)
-    by false e = inr (ltb-false a b e)
+below-or-not a b = by-test (ltb a b) (λ e. inl (ltb-true a b e)) (λ e. inr (ltb-false a b e))
 
 -- a number equals another or not
 pub equal-or-not : (a b : ℕ) → (a ≡ b) ⊎ (a ≡ b → ⊥)
-equal-or-not a b = by (eqb a b) refl
-  where
-    by : (test : Bool) → eqb a b ≡ test → (a ≡ b) ⊎ (a ≡ b → ⊥)
-    by true e = inl (eqb-true a b e)
-    by false e = inr (eqb-false a b e)
+equal-or-not a b = by-test (eqb a b) (λ e. inl (eqb-true a b e)) (λ e. inr (eqb-false a b e))
 
 module _ (P : Problem) where
-  -- placing a demand never lowers the largest end
-  pub top-place : (rows : List Row) (i : ℕ) → top P rows ≤ top P (place P rows i)
-  unfolding top place
-  top-place rows i = omega arith
-
-  -- nor does placing the demands of an order
-  pub top-fill : (rows : List Row) (order : List ℕ) → top P rows ≤ endsAt P rows order
-  unfolding fill endsAt
-  top-fill rows [] = omega arith
-  top-fill rows (i ∷ order) = omega (arith, top-place rows i, top-fill (place P rows i) order)
+  -- no order ends below the rows that stand
+  pub ends-above-rows : (rows : List Row) (order : List ℕ) → top P rows ≤ endsAt P rows order
+  unfolding endsAt
+  ends-above-rows rows order = top-fill P rows order
 
   -- an order that begins with i ends where the rest of it ends once i is placed
   pub endsAt-place : (rows : List Row) (i : ℕ) (order : List ℕ) → endsAt P rows (i ∷ order) ≡ endsAt P (place P rows i) order

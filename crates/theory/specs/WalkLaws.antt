@@ -12,7 +12,7 @@ use Rattle.theory.specs.OrdersLaws.{factorial-pos, ordersOf-length, spre
 use Rattle.theory.specs.Walk.{Best, met, Course, going, at-bound, out-of-steps, Tally, stepped, leave, exhausted, equalled, improved, goes-on, complete, judge, step, siblings, walk}
 use Rattle.theory.specs.WalkBranchLaws.{complete-better, complete-at-bound, complete-above-bound, complete-equalled, judge-complete, judge-left, judge-deeper, step-spent, step-taken, siblings-none, siblings-on, siblings-stop, walk-complete, walk-siblings}
 use Rattle.theory.specs.Tried.{Lead, leadOf, endsAt, leadBy, try, FirstLowest, Leads, EndsAtBound, Walked}
-use Rattle.theory.specs.TriedLaws.{below-or-not, equal-or-not, top-fill, try-append, try-map, try-none, try-better, try-equalled, try-leads, leads-mark}
+use Rattle.theory.specs.TriedLaws.{below-or-not, equal-or-not, ends-above-rows, try-append, try-map, try-none, try-better, try-equalled, try-leads, leads-mark}
 
 -- a walk that goes on neither met the bound nor ran out of steps
 going-not-at-bound : going ≡ at-bound → ⊥
@@ -21,7 +21,7 @@ going-not-at-bound e = let z : _≡_ {A = ℕ} 0 1 = cc in omega arith
 pub going-not-out : going ≡ out-of-steps → ⊥
 going-not-out e = let z : _≡_ {A = ℕ} 0 1 = cc in omega arith
 
-at-bound-not-out : at-bound ≡ out-of-steps → ⊥
+pub at-bound-not-out : at-bound ≡ out-of-steps → ⊥
 at-bound-not-out e = let z : _≡_ {A = ℕ} 0 1 = cc in omega arith
 
 -- a walk goes on, or it has ended
@@ -243,7 +243,7 @@ module _ (P : Problem) (limit bound : ℕ) where
         split = sym (append-nil (ordersOf n left));
         counted = omega (arith, ordersOf-length n left sized);
         led = sym
-            (try-none P rows path (ordersOf n left) (leadOf t) (λ (o : List ℕ) m. omega (arith, top-fill P rows o)));
+            (try-none P rows path (ordersOf n left) (leadOf t) (λ (o : List ℕ) m. omega (arith, ends-above-rows P rows o)));
         steps-rise = omega arith;
         steps-held = omega arith;
         when-going = λ e. refl;
