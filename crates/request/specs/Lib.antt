@@ -3,3 +3,6 @@ pub mod View
 pub mod Check
 pub mod Sound
 pub mod Encoding
+pub mod TestLaws
+pub mod Route
+pub mod RouteLaws

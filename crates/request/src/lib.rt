@@ -2,6 +2,9 @@
 use grid::Band;
 use refusal::Refusal;
 
+mod check;
+mod route;
+
 // A directed link from one node to another.
 pub struct Link {
     pub from: u8,

@@ -1,0 +1,128 @@
+-- `request::route::sound_route` meets its contract. Assumes nothing.
+use Prim.Native.Nat.{ℕ, _-_}
+use mathlib.Core.Path.{_≡_, sym, _∙_}
+use borrow.Author.Tests.{not-true, not-false}
+use native.Mathlib.Omega.{arith}
+use borrow.Author.Needs.{needs}
+use denote.Ref.{now}
+use lib.ListN.{length, getD, take}
+use lib.Seq.{length-take-le, getD-take}
+use Rattle.request.specs.View.{linkAt, noLink}
+use Rattle.request.specs.Route.{RouteCome}
+use Rattle.request.specs.RouteLaws.{come-none, come-on, come-sound, unlisted-unsound, repeated-unsound, broken-unsound}
+use Rattle.request.proofs.route.sound_route.Statement.{statement}
+use Rattle.request.proofs.route.sound_route.Tie as tie
+
+abbrev Inv-loop : tie.InvT-loop
+Inv-loop route count links node₀ p₀ node p = RouteCome (take count links) route node p
+
+abbrev μ-loop : tie.MeasureT-loop
+μ-loop route count links node₀ p₀ node p = length route - p
+
+loop-holds : tie.Need-loop-holds Inv-loop μ-loop
+loop-holds c = come-none _ _ _
+
+shared-slice-read-link : tie.Need-shared-slice-read-link Inv-loop μ-loop
+shared-slice-read-link c = search needs
+
+cast-a : tie.Need-cast-a Inv-loop μ-loop
+cast-a c = omega (arith, c .shared-slice-known2 .given (c .before .before .loop .p))
+
+returns : tie.Need-returns Inv-loop μ-loop
+returns c =
+    let start = c .before .before .before .before .before in
+    let count = start .args .count in
+    let links = start .args .t2 in
+    let route = now (start .args .route) in
+    let p = c .before .before .before .loop .p in
+    let whole : _≡_ {A = ℕ} (length links) 64 = search needs in
+    let listed : length (take count links) ≡ count = length-take-le count links (omega arith) in
+    sym (unlisted-unsound (take count links) route p (omega arith) (omega arith))
+
+slice-aggregate-stands-in : tie.Need-slice-aggregate-stands-in Inv-loop μ-loop
+slice-aggregate-stands-in c = sym (length-take-le _ _ (omega arith))
+
+stands-in-requires : tie.Need-stands-in-requires Inv-loop μ-loop
+stands-in-requires c κs = search needs
+
+returns-2 : tie.Need-returns-2 Inv-loop μ-loop
+returns-2 c =
+    let start = c .before .before .before .before .before .before .before .before in
+    let count = start .args .count in
+    let links = start .args .t2 in
+    let route = now (start .args .route) in
+    let p = c .before .before .before .before .before .before .loop .p in
+    let whole : _≡_ {A = ℕ} (length links) 64 = search needs in
+    let listed : length (take count links) ≡ count = length-take-le count links (omega arith) in
+    sym (repeated-unsound (take count links) route p (omega arith) (sym (c .before .stands-in .ensures) ∙ c .if2 .taken))
+
+mul-here : tie.Need-mul-here Inv-loop μ-loop
+mul-here c = search needs
+
+array-copy-out-here : tie.Need-array-copy-out-here Inv-loop μ-loop
+array-copy-out-here c = search needs
+
+goes-on-requires : tie.Need-goes-on-requires Inv-loop μ-loop
+goes-on-requires c κs = search needs
+
+returns-3 : tie.Need-returns-3 Inv-loop μ-loop
+unfolding linkAt noLink
+returns-3 c =
+    let start = c .before .before .before .before .before .before .before .before .before .before .before in
+    let count = start .args .count in
+    let links = start .args .t2 in
+    let route = now (start .args .route) in
+    let p = c .before .before .before .before .before .before .before .before .before .loop .p in
+    let whole : _≡_ {A = ℕ} (length links) 64 = search needs in
+    let listed : length (take count links) ≡ count = length-take-le count links (omega arith) in
+    let same : linkAt (take count links) (getD route p 0) ≡ getD links (getD route p 0) noLink = getD-take count links (getD route p 0) noLink (omega arith) in
+    sym (broken-unsound (take count links) route (c .before .before .before .before .before .before .before .before .before .loop .node) p (c .before .before .before .before .before .before .before .before .before .loop .inv) (omega arith)
+    (rw same (sym (c .before .goes-on .ensures) ∙ not-true (c .before .goes-on .result) (c .if3 .taken))))
+
+add-p : tie.Need-add-p Inv-loop μ-loop
+add-p c = search needs
+
+loop-less : tie.Need-loop-less Inv-loop μ-loop
+loop-less c = search needs
+
+loop-again : tie.Need-loop-again Inv-loop μ-loop
+unfolding linkAt noLink
+loop-again c =
+    let start = c .before .before .before .before .before .before .before .before .before .before .before in
+    let count = start .args .count in
+    let links = start .args .t2 in
+    let route = now (start .args .route) in
+    let p = c .before .before .before .before .before .before .before .before .before .loop .p in
+    let whole : _≡_ {A = ℕ} (length links) 64 = search needs in
+    let listed : length (take count links) ≡ count = length-take-le count links (omega arith) in
+    let same : linkAt (take count links) (getD route p 0) ≡ getD links (getD route p 0) noLink = getD-take count links (getD route p 0) noLink (omega arith) in
+    rw same at (come-on (take count links) route (c .before .before .before .before .before .before .before .before .before .loop .node) p (c .before .before .before .before .before .before .before .before .before .loop .inv) (omega arith) (omega arith)
+    (sym (c .before .before .before .before .stands-in .ensures) ∙ c .before .before .before .if2 .left)
+    (rw same (sym (c .before .goes-on .ensures) ∙ not-false (c .before .goes-on .result) (c .if3 .left))))
+
+returns-4 : tie.Need-returns-4 Inv-loop μ-loop
+returns-4 c =
+    let start = c .before .before .before in
+    sym (come-sound (take (start .args .count) (start .args .t2)) (now (start .args .route)) (c .before .loop .node) (c .before .loop .p) (c .before .loop .inv) (omega arith))
+
+pub sound-route-spec : {M : Type 1} → statement M
+sound-route-spec =
+    tie.close
+    (tie.spec
+    Inv-loop
+    μ-loop
+    loop-holds
+    shared-slice-read-link
+    cast-a
+    returns
+    slice-aggregate-stands-in
+    stands-in-requires
+    returns-2
+    mul-here
+    array-copy-out-here
+    goes-on-requires
+    returns-3
+    add-p
+    loop-less
+    loop-again
+    returns-4)
