@@ -2,3 +2,4 @@
 pub mod Placing
 pub mod Plan
 pub mod PlanLaws
+pub mod PlanEndLaws

@@ -27,3 +27,4 @@ pub mod Search
 pub mod Promises
 pub mod SearchLaws
 pub mod ListingLaws
+pub mod AlikeLaws
