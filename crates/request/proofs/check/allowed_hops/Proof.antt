@@ -1,7 +1,7 @@
 -- `request::check::allowed_hops` meets its contract. Assumes nothing.
 use borrow.Author.Tests.{le-leb, lt-leb}
 use lib.Dec.{leb}
-use Rattle.grid.specs.GridLaws.{both-if, not-both}
+use Rattle.grid.specs.ReplyLaws.{both-if, not-both}
 use Rattle.request.specs.Check.{allowedHops}
 use Rattle.request.proofs.check.allowed_hops.Statement.{statement}
 use Rattle.request.proofs.check.allowed_hops.Tie as tie
