@@ -2,17 +2,18 @@
 use Prim.Native.Nat.{ℕ, _+_, _≤_, _<_}
 use mathlib.Core.Bool.{Bool, true, false, not, _||_, or-true, false≢true}
 use mathlib.Core.Logic.{_⊎_, inl, inr, ⊎-map, ⊎-elim}
-use mathlib.Core.Path.{_≡_, refl, sym}
+use mathlib.Core.Path.{_≡_, refl}
 use native.Mathlib.Omega.{arith}
 use lib.Dec.{leb}
-use borrow.Author.Tests.{leb-true, leb-false, le-leb, lt-leb}
+use borrow.Author.Tests.{leb-true, leb-false, le-leb}
 use Rattle.theory.specs.Problem.{Problem, endOf, apart}
-use Rattle.theory.specs.TestLaws.{by-test, not-true-false}
+use Rattle.theory.specs.TestLaws.{by-test, not-both, not-true-false, not-false-true}
 
 -- the tests that apart is made of, over plain Booleans
 either : Bool → Bool → Bool → Bool
 either j a b = not j || (a || b)
 
+-- which of the two last tests comes first makes no difference
 either-swap : (j a b : Bool) → either j a b ≡ either j b a
 unfolding either
 either-swap true true true = refl
@@ -21,17 +22,26 @@ either-swap true false true = refl
 either-swap true false false = refl
 either-swap false a b = refl
 
+-- with the first test true one of the two last is true
 either-cases : (j a b : Bool) → either j a b ≡ true → j ≡ true → (a ≡ true) ⊎ (b ≡ true)
 unfolding either
 either-cases true true b e t = inl refl
 either-cases true false b e t = inr e
 either-cases false a b e t = absurd (false≢true t)
 
-either-false : (j a b : Bool) → either j a b ≡ false → (j ≡ true) × (a ≡ false) × (b ≡ false)
-unfolding either
-either-false true true b e = absurd (false≢true (sym e))
-either-false true false b e = (refl, refl, e)
-either-false false a b e = absurd (false≢true (sym e))
+-- joined both ways or neither, two demands are apart the one way exactly when they are the other way
+pub apart-swap : (P : Problem) (i s j t : ℕ) → P .joined i j ≡ P .joined j i → apart P i s j t ≡ apart P j t i s
+unfolding apart either
+apart-swap P i s j t e =
+    rw e (either-swap (P .joined j i) (leb (endOf P i s + P .gap i j) t) (leb (endOf P j t + P .gap j i) s))
+
+-- of two joined demands that are apart one ends, the gap included, before the other starts
+pub apart-cases : (P : Problem) (i s j t : ℕ) → apart P i s j t ≡ true → P .joined i j ≡ true →
+    (endOf P i s + P .gap i j ≤ t) ⊎ (endOf P j t + P .gap j i ≤ s)
+unfolding apart either
+apart-cases P i s j t h e =
+    ⊎-map (leb-true (endOf P i s + P .gap i j) t) (leb-true (endOf P j t + P .gap j i) s)
+    (either-cases (P .joined i j) (leb (endOf P i s + P .gap i j) t) (leb (endOf P j t + P .gap j i) s) h e)
 
 -- demands that share no link are apart
 pub unjoined-apart : (P : Problem) (i s j t : ℕ) → P .joined i j ≡ false → apart P i s j t ≡ true
@@ -48,29 +58,20 @@ pub after-apart : (P : Problem) (i s j t : ℕ) → endOf P j t + P .gap j i ≤
 unfolding apart
 after-apart P i s j t h = rw (le-leb (endOf P j t + P .gap j i) s h, or-true) (or-true (not (P .joined i j)))
 
--- of two joined demands that are apart one ends, the gap included, before the other starts
-pub apart-cases : (P : Problem) (i s j t : ℕ) → apart P i s j t ≡ true → P .joined i j ≡ true →
-    (endOf P i s + P .gap i j ≤ t) ⊎ (endOf P j t + P .gap j i ≤ s)
-unfolding apart either
-apart-cases P i s j t h e =
-    ⊎-map (leb-true (endOf P i s + P .gap i j) t) (leb-true (endOf P j t + P .gap j i) s)
-    (either-cases (P .joined i j) (leb (endOf P i s + P .gap i j) t) (leb (endOf P j t + P .gap j i) s) h e)
+-- From here on apart stays shut.
 
 -- two demands that clash are joined, and neither ends, the gap included, before the other starts
 pub clash-facts : (P : Problem) (i s j t : ℕ) → apart P i s j t ≡ false →
     (P .joined i j ≡ true) × (t < endOf P i s + P .gap i j) × (s < endOf P j t + P .gap j i)
-unfolding apart either
-clash-facts P i s j t h =
-    let parts = either-false (P .joined i j) (leb (endOf P i s + P .gap i j) t) (leb (endOf P j t + P .gap j i) s) h in
-    (parts .0, leb-false (endOf P i s + P .gap i j) t (parts .1), leb-false (endOf P j t + P .gap j i) s (parts .2))
-
--- joined both ways or neither, two demands are apart the one way exactly when they are the other way
-pub apart-swap : (P : Problem) (i s j t : ℕ) → P .joined i j ≡ P .joined j i → apart P i s j t ≡ apart P j t i s
-unfolding apart either
-apart-swap P i s j t e =
-    rw e (either-swap (P .joined j i) (leb (endOf P i s + P .gap i j) t) (leb (endOf P j t + P .gap j i) s))
-
--- From here on apart stays shut.
+clash-facts P i s j t c = (
+  not-false-true (P .joined i j) (λ e. not-both (apart P i s j t) (unjoined-apart P i s j t e) c),
+  by-test (leb (endOf P i s + P .gap i j) t)
+      (λ l. not-both (apart P i s j t) (before-apart P i s j t (leb-true (endOf P i s + P .gap i j) t l)) c)
+      (leb-false (endOf P i s + P .gap i j) t),
+  by-test (leb (endOf P j t + P .gap j i) s)
+      (λ l. not-both (apart P i s j t) (after-apart P i s j t (leb-true (endOf P j t + P .gap j i) s l)) c)
+      (leb-false (endOf P j t + P .gap j i) s),
+)
 
 -- two joined demands clash where neither ends, the gap included, before the other starts
 pub clash-from : (P : Problem) (i s j t : ℕ) → P .joined i j ≡ true → t < endOf P i s + P .gap i j → s < endOf P j t + P .gap j i →

@@ -1,9 +1,9 @@
 -- No allowed plan ends below what demands that all share links with each other need side by side.
-use Prim.Native.Nat.{ℕ, zero, suc, _+_, _*_, _-_, _≤_, _<_}
-use mathlib.Core.Bool.{Bool, true, false}
+use Prim.Native.Nat.{ℕ, suc, _+_, _*_, _-_, _≤_}
+use mathlib.Core.Bool.{true}
 use mathlib.Core.List.{List, [], _∷_, _++_, List·Memᴰ, List·Memᴰ·head, List·Memᴰ·tail}
-use mathlib.Core.Logic.{_⊎_, ⊎-elim, _≢_}
-use mathlib.Core.Path.{_≡_, refl, sym, ap, _∙_}
+use mathlib.Core.Logic.{⊎-elim, _≢_}
+use mathlib.Core.Path.{_≡_, refl}
 use native.Mathlib.Nat.{mul-zero, mul-suc}
 use native.Mathlib.Omega.{arith}
 use lib.ListN.{length}
@@ -14,9 +14,9 @@ use Rattle.theory.specs.Earlier.{NoRepeats}
 use Rattle.theory.specs.ByStart.{NeverFalling}
 use Rattle.theory.specs.ApartLaws.{apart-cases}
 use Rattle.theory.specs.ArrangeLaws.{arrange-mem, arrange-no-repeats, arrange-length, no-repeats-first, no-repeats-rest}
-use Rattle.theory.specs.ProblemLaws.{end-is, fits-nil, planEnd-above}
+use Rattle.theory.specs.ProblemLaws.{end-is}
 use Rattle.theory.specs.ByStartLaws.{by-start, by-start-rises}
-use Rattle.theory.specs.SufficesLaws.{allowed-part}
+use Rattle.theory.specs.AllowedLaws.{allowed-part, allowed-own-end, allowed-alone}
 
 -- of two joined demands that are apart the one that starts no later ends, the gap included, before the other starts
 pub next-starts : (P : Problem) (i s j t : ℕ) → P .joined i j ≡ true → apart P i s j t ≡ true → s ≤ t → 1 ≤ P .width j →
@@ -81,23 +81,15 @@ packed-room P e group plan a once wide meet =
           (allowed-part P e [] group order plan part a),
     )
 
--- an allowed plan, seen for some of its demands alone, lies within the plan's end
-pub allowed-within-end : (P : Problem) (S : ℕ) (rows : List Row) (todo group : List ℕ) (plan : ℕ → ℕ) →
-    ((i : ℕ) → List·Memᴰ i group → List·Memᴰ i todo) → Allowed P S rows todo plan →
-    Allowed P (planEnd P rows todo plan) [] group plan
-allowed-within-end P S rows todo group plan inside a =
-    record {
-      within = λ i m. planEnd-above P rows todo plan i (inside i m);
-      clear-of-rows = λ i m. fits-nil P i (plan i);
-      clear-of-others = λ i j mi mj ne. a .clear-of-others i j (inside i mi) (inside j mj) ne;
-    }
-
 -- no allowed plan ends below the packed room, in some order, of a group of its demands that meets whole
 pub packed-bound : (P : Problem) (S : ℕ) (rows : List Row) (todo group : List ℕ) (plan : ℕ → ℕ) → Allowed P S rows todo plan →
     NoRepeats group → ((i : ℕ) → List·Memᴰ i group → List·Memᴰ i todo) → ((i : ℕ) → List·Memᴰ i group → 1 ≤ P .width i) →
     AllMeet P group → (order : List ℕ) × Arrange order group × (packed P order ≤ planEnd P rows todo plan)
 packed-bound P S rows todo group plan a once inside wide meet =
-    packed-room P (planEnd P rows todo plan) group plan (allowed-within-end P S rows todo group plan inside a) once wide meet
+    let e : ℕ = planEnd P rows todo plan in
+    packed-room P e group plan
+    (allowed-part P e [] todo group plan inside (allowed-alone P e rows todo plan (allowed-own-end P S rows todo plan a)))
+    once wide meet
 
 -- the sum of widths with a demand in the middle
 widths-middle : (P : Problem) (before : List ℕ) (i : ℕ) (after : List ℕ) →

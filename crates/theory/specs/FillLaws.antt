@@ -1,28 +1,16 @@
 -- What first fit without a limit gives along an order is an allowed plan, and its top is the plan's end.
-use Prim.Native.Nat.{ℕ, _+_, _≤_, _<_, max}
-use mathlib.Core.Bool.{Bool, true, false}
+use Prim.Native.Nat.{ℕ, _≤_}
+use mathlib.Core.Bool.{true}
 use mathlib.Core.List.{List, [], _∷_, _++_, List·Memᴰ, List·Memᴰ·not-nil, List·Memᴰ·cases-cons}
-use mathlib.Core.Logic.{_⊎_, ⊎-elim, _≢_}
-use mathlib.Core.Path.{_≡_, refl, sym, ap, _∙_}
+use mathlib.Core.Logic.{⊎-elim, _≢_}
+use mathlib.Core.Path.{_≡_, sym, _∙_}
 use native.Mathlib.Omega.{arith}
-use Rattle.theory.specs.Problem.{Problem, Row, endOf, apart, fits, lowest, place, fill, top, Allowed, planEnd, startIn}
+use Rattle.theory.specs.Problem.{Problem, Row, apart, fits, place, fill, top, Allowed, planEnd, startIn}
 use Rattle.theory.specs.Arrange.{Arrange}
 use Rattle.theory.specs.Earlier.{NoRepeats}
 use Rattle.theory.specs.ApartLaws.{apart-swap}
 use Rattle.theory.specs.ArrangeLaws.{arrange-back, arrange-no-repeats, no-repeats-first, no-repeats-rest}
-use Rattle.theory.specs.ProblemLaws.{
-  lowest-fits,
-  place-apart,
-  place-rest,
-  fill-nil,
-  fill-cons,
-  start-first,
-  planEnd-nil,
-  planEnd-cons,
-  planEnd-middle,
-  planEnd-place,
-  planEnd-above,
-}
+use Rattle.theory.specs.ProblemLaws.{lowest-fits, place-apart, place-rest, fill-nil, fill-cons, start-first, planEnd-nil, planEnd-cons, planEnd-middle, planEnd-place, planEnd-above}
 
 -- a plan ends at the same place for a list and for each order of it
 pub planEnd-arrange : (P : Problem) (rows : List Row) (order todo : List ℕ) (plan : ℕ → ℕ) → Arrange order todo →

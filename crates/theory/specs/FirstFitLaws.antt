@@ -1,16 +1,14 @@
 -- First fit inside a band: when it places all, when it refuses, and that no allowed plan does better than some order of it.
-use Prim.Native.Nat.{ℕ, _+_, _≤_, _<_, max}
-use mathlib.Core.Bool.{Bool, true, false, cond}
-use mathlib.Core.List.{List, [], _∷_, _++_, List·Memᴰ, List·Memᴰ·head, List·Memᴰ·tail, List·Memᴰ·not-nil, List·Memᴰ·cases-cons}
-use mathlib.Core.Logic.{_⊎_, inl, inr, ⊎-elim, _≢_}
+use Prim.Native.Nat.{ℕ, _≤_, _<_}
+use mathlib.Core.Bool.{Bool, true, cond}
+use mathlib.Core.List.{List, [], _∷_, _++_}
 use mathlib.Core.Path.{_≡_, refl, sym, ap, _∙_}
 use native.Mathlib.Omega.{arith}
 use lib.Dec.{leb}
 use borrow.Author.Tests.{leb-true, leb-false, le-leb, lt-leb}
-use Rattle.theory.specs.Problem.{Problem, Row, endOf, apart, fits, lowest, place, fill, top, Fitted, placed, refused, firstFit, Allowed, planEnd, startIn}
-use Rattle.theory.specs.Arrange.{Arrange}
+use Rattle.theory.specs.Problem.{Problem, Row, endOf, fits, lowest, place, fill, top, placed, refused, firstFit}
 use Rattle.theory.specs.TestLaws.{by-test}
-use Rattle.theory.specs.ProblemLaws.{end-rises, lowest-least, fill-nil, fill-cons, fill-append, top-fill, top-place}
+use Rattle.theory.specs.ProblemLaws.{end-rises, lowest-least, fill-nil, fill-cons, top-fill, top-place}
 
 module _ (P : Problem) (S : ℕ) where
   -- with nothing to place the rows stay
@@ -18,17 +16,18 @@ module _ (P : Problem) (S : ℕ) where
   unfolding firstFit
   firstFit-nil rows = refl
 
+  -- a demand whose lowest start ends above S is refused
+  pub firstFit-refuses : (rows : List Row) (i : ℕ) (order : List ℕ) → S < endOf P i (lowest P rows i) →
+      firstFit P S rows (i ∷ order) ≡ refused i
+  unfolding firstFit
+  firstFit-refuses rows i order h =
+      ap (λ (b : Bool). cond b (firstFit P S (place P rows i) order) (refused i)) (lt-leb (endOf P i (lowest P rows i)) S h)
+
   -- a demand whose lowest start ends within S is placed there, and first fit goes on
   pub firstFit-on : (rows : List Row) (i : ℕ) (order : List ℕ) → endOf P i (lowest P rows i) ≤ S →
       firstFit P S rows (i ∷ order) ≡ firstFit P S (place P rows i) order
   unfolding firstFit
   firstFit-on rows i order h = rw (le-leb (endOf P i (lowest P rows i)) S h)
-
-  -- a demand whose lowest start ends above S is refused
-  pub firstFit-refuses : (rows : List Row) (i : ℕ) (order : List ℕ) → S < endOf P i (lowest P rows i) →
-      firstFit P S rows (i ∷ order) ≡ refused i
-  unfolding firstFit
-  firstFit-refuses rows i order h = rw (lt-leb (endOf P i (lowest P rows i)) S h)
 
   -- where the lowest start ends above S, no start that fits ends within S
   pub none-fits : (rows : List Row) (i : ℕ) → S < endOf P i (lowest P rows i) →

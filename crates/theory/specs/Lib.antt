@@ -7,6 +7,7 @@ pub mod ApartLaws
 pub mod ProblemLaws
 pub mod Scan
 pub mod ScanLaws
+pub mod AllowedLaws
 pub mod FillLaws
 pub mod FirstFitLaws
 pub mod ByStart

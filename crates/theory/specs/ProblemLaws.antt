@@ -1,15 +1,15 @@
 -- What fits, the lowest start, placing and filling: the laws that everything above cites.
 use Prim.Native.Nat.{ℕ, zero, suc, _+_, _≤_, _<_, max}
-use mathlib.Core.Bool.{Bool, true, false, _&&_, cond, and-assoc}
+use mathlib.Core.Bool.{Bool, true, false, _&&_, and-assoc}
 use mathlib.Core.List.{List, [], _∷_, _++_, List·Memᴰ, List·Memᴰ·head, List·Memᴰ·tail, List·Memᴰ·not-nil, List·Memᴰ·cases-cons}
-use mathlib.Core.Logic.{_⊎_, inl, inr, ⊎-elim}
+use mathlib.Core.Logic.{⊎-elim}
 use mathlib.Core.Path.{_≡_, refl, sym, ap, _∙_}
 use native.Mathlib.Omega.{arith}
-use lib.Dec.{leb, eqb}
+use lib.Dec.{leb}
 use borrow.Author.Tests.{leb-true, leb-false, eq-eqb, ne-eqb}
 use Rattle.theory.specs.Problem.{Problem, Row, endOf, apart, fits, past, least, lowest, place, fill, top, planEnd, startIn}
 use Rattle.theory.specs.TestLaws.{by-test, not-both, and-both, and-first, and-second, not-true-false}
-use Rattle.theory.specs.ApartLaws.{before-apart, clash-facts, clash-lasts}
+use Rattle.theory.specs.ApartLaws.{before-apart, clash-lasts}
 
 -- an end is the start plus the width
 pub end-is : (P : Problem) (i s : ℕ) → endOf P i s ≡ s + P .width i
@@ -125,17 +125,17 @@ past-fits P [] i s h = fits-nil P i s
 past-fits P (r ∷ rows) i s h =
     fits-with P r rows i s (before-apart P (r .who) (r .at) i s (omega arith)) (past-fits P rows i s (omega arith))
 
+-- no start below the lowest fits
+pub lowest-least : (P : Problem) (rows : List Row) (i s : ℕ) → fits P rows i s ≡ true → lowest P rows i ≤ s
+unfolding lowest
+lowest-least P rows i s f = least-least (fits P rows i) (past P rows i) 0 s (omega arith) f
+
 -- the lowest start fits
 pub lowest-fits : (P : Problem) (rows : List Row) (i : ℕ) → fits P rows i (lowest P rows i) ≡ true
 unfolding lowest
 lowest-fits P rows i =
     least-passes (fits P rows i) (past P rows i) 0 (past P rows i) (omega arith) (omega arith)
     (past-fits P rows i (past P rows i) (omega arith))
-
--- no start below the lowest fits
-pub lowest-least : (P : Problem) (rows : List Row) (i s : ℕ) → fits P rows i s ≡ true → lowest P rows i ≤ s
-unfolding lowest
-lowest-least P rows i s f = least-least (fits P rows i) (past P rows i) 0 s (omega arith) f
 
 -- the lowest start is no higher than past every row and its gap
 pub lowest-past : (P : Problem) (rows : List Row) (i : ℕ) → lowest P rows i ≤ past P rows i
@@ -170,18 +170,24 @@ lowest-stays P r rows i a =
     let k = lowest-least P (r ∷ rows) i (lowest P rows i) (fits-with P r rows i (lowest P rows i) a (lowest-fits P rows i)) in
     omega arith
 
+-- a row that clashes at a start which is not above the lowest takes the lowest past the row's end and gap
+pub clash-jumps : (P : Problem) (rows : List Row) (i s : ℕ) (r : Row) → List·Memᴰ r rows → s ≤ lowest P rows i →
+    apart P (r .who) (r .at) i s ≡ false → endOf P (r .who) (r .at) + P .gap (r .who) i ≤ lowest P rows i
+clash-jumps P rows i s r m h c =
+    let until : ℕ = endOf P (r .who) (r .at) + P .gap (r .who) i in
+    by-test (leb until (lowest P rows i))
+    (leb-true until (lowest P rows i))
+    (λ e.
+    not-both (apart P (r .who) (r .at) i (lowest P rows i))
+    (fits-apart P rows i (lowest P rows i) (lowest-fits P rows i) r m)
+    (clash-lasts P (r .who) (r .at) i s (lowest P rows i) c h (leb-false until (lowest P rows i) e)))
+
 -- a new row that clashes with a demand at its lowest start takes that start past the row's end and gap
 pub lowest-jumps : (P : Problem) (r : Row) (rows : List Row) (i : ℕ) →
     apart P (r .who) (r .at) i (lowest P rows i) ≡ false →
     endOf P (r .who) (r .at) + P .gap (r .who) i ≤ lowest P (r ∷ rows) i
 lowest-jumps P r rows i c =
-    by-test (leb (endOf P (r .who) (r .at) + P .gap (r .who) i) (lowest P (r ∷ rows) i))
-    (leb-true (endOf P (r .who) (r .at) + P .gap (r .who) i) (lowest P (r ∷ rows) i))
-    (λ e.
-    not-both (apart P (r .who) (r .at) i (lowest P (r ∷ rows) i))
-    (fits-first P r rows i (lowest P (r ∷ rows) i) (lowest-fits P (r ∷ rows) i))
-    (clash-lasts P (r .who) (r .at) i (lowest P rows i) (lowest P (r ∷ rows) i) c (lowest-rises P r rows i)
-    (leb-false (endOf P (r .who) (r .at) + P .gap (r .who) i) (lowest P (r ∷ rows) i) e)))
+    clash-jumps P (r ∷ rows) i (lowest P rows i) r (List·Memᴰ·head refl) (lowest-rises P r rows i) c
 
 -- where no row stands the lowest start is 0
 pub lowest-nil : (P : Problem) (i : ℕ) → lowest P [] i ≡ 0

@@ -1,6 +1,6 @@
 -- The scan for the lowest start: it looks at one start, and on a clash goes on past all the rows that clash there.
 use Prim.Native.Nat.{ℕ, zero, suc, _+_, max}
-use mathlib.Core.Bool.{Bool, true, false, cond, _&&_}
+use mathlib.Core.Bool.{cond, _&&_}
 use mathlib.Core.List.{List, [], _∷_}
 use lib.Dec.{ltb}
 use Rattle.theory.specs.Problem.{Problem, Row, endOf, apart, fits}

@@ -1,16 +1,16 @@
 -- The scan finds the lowest start, and needs no more looks than one and one for each row that shares a link.
 use Prim.Native.Nat.{ℕ, zero, suc, _+_, _≤_, _<_, max}
-use mathlib.Core.Bool.{Bool, true, false, cond, _&&_, and-false}
+use mathlib.Core.Bool.{true, false, _&&_, and-false}
 use mathlib.Core.List.{List, [], _∷_, _++_}
-use mathlib.Core.Path.{_≡_, refl, sym, ap, _∙_}
+use mathlib.Core.Path.{_≡_, refl, sym}
 use native.Mathlib.Omega.{arith}
-use lib.Dec.{leb, ltb}
-use borrow.Author.Tests.{leb-true, leb-false, ltb-true, ltb-false, lt-ltb, le-ltb}
-use Rattle.theory.specs.Problem.{Problem, Row, endOf, apart, fits, past, lowest}
+use lib.Dec.{ltb}
+use borrow.Author.Tests.{ltb-true, ltb-false, lt-ltb, le-ltb}
+use Rattle.theory.specs.Problem.{Problem, Row, endOf, apart, fits, lowest}
 use Rattle.theory.specs.Scan.{nextStart, scan, joinedRows, rowsAhead}
-use Rattle.theory.specs.TestLaws.{by-test, not-both, and-first, and-second, not-true-false, not-false-true}
+use Rattle.theory.specs.TestLaws.{by-test, not-both, not-true-false, not-false-true}
 use Rattle.theory.specs.ApartLaws.{clash-facts, clash-lasts}
-use Rattle.theory.specs.ProblemLaws.{fits-nil, fits-with, fits-first, fits-rest, fits-not-first, fits-not-rest, lowest-fits, lowest-least, lowest-past}
+use Rattle.theory.specs.ProblemLaws.{fits-nil, fits-with, fits-first, fits-rest, fits-not-first, fits-not-rest, lowest-fits, lowest-least}
 
 module _ (P : Problem) where
   -- with no row the scan stays

@@ -1,30 +1,20 @@
 -- First fit suffices: whatever an allowed plan reaches, first fit reaches in the order by start.
-use Prim.Native.Nat.{ℕ, _+_, _≤_, _<_, max}
-use mathlib.Core.Bool.{Bool, true, false}
+use Prim.Native.Nat.{ℕ, _≤_}
 use mathlib.Core.List.{List, [], _∷_, List·Memᴰ, List·Memᴰ·head, List·Memᴰ·tail, List·Memᴰ·not-nil, List·Memᴰ·cases-cons, Memᴰ·cast}
-use mathlib.Core.Logic.{_⊎_, ⊎-elim, _≢_}
-use mathlib.Core.Path.{_≡_, refl, sym, ap, _∙_}
+use mathlib.Core.Logic.{⊎-elim}
+use mathlib.Core.Path.{_≡_, refl, _∙_}
 use native.Mathlib.Omega.{arith}
-use Rattle.theory.specs.Problem.{Problem, Row, endOf, apart, fits, lowest, place, fill, top, placed, firstFit, Allowed, planEnd, startIn}
+use Rattle.theory.specs.Problem.{Problem, Row, endOf, lowest, place, fill, top, placed, firstFit, Allowed, planEnd, startIn}
 use Rattle.theory.specs.Arrange.{Arrange}
-use Rattle.theory.specs.Earlier.{Chained, NoRepeats}
+use Rattle.theory.specs.Earlier.{NoRepeats}
 use Rattle.theory.specs.ByStart.{NeverFalling, ByStart, AsLow}
 use Rattle.theory.specs.ApartLaws.{lowered-apart}
 use Rattle.theory.specs.ArrangeLaws.{arrange-mem, arrange-back, arrange-no-repeats, no-repeats-first, no-repeats-rest}
 use Rattle.theory.specs.ProblemLaws.{end-rises, lowest-least, place-with, fill-nil, fill-cons, start-first, planEnd-nil, planEnd-cons, planEnd-place}
+use Rattle.theory.specs.AllowedLaws.{allowed-part}
 use Rattle.theory.specs.FillLaws.{planEnd-arrange}
 use Rattle.theory.specs.FirstFitLaws.{firstFit-nil, firstFit-on}
 use Rattle.theory.specs.ByStartLaws.{by-start, by-start-rises}
-
--- a plan that is allowed for a list is allowed for each list of some of its demands
-pub allowed-part : (P : Problem) (S : ℕ) (rows : List Row) (todo part : List ℕ) (plan : ℕ → ℕ) →
-    ((i : ℕ) → List·Memᴰ i part → List·Memᴰ i todo) → Allowed P S rows todo plan → Allowed P S rows part plan
-allowed-part P S rows todo part plan inside a =
-    record {
-      within = λ i m. a .within i (inside i m);
-      clear-of-rows = λ i m. a .clear-of-rows i (inside i m);
-      clear-of-others = λ i j mi mj ne. a .clear-of-others i j (inside i mi) (inside j mj) ne;
-    }
 
 -- the demand that starts first in an allowed plan has its lowest start no later than there
 first-lower : (P : Problem) (S : ℕ) (rows : List Row) (i : ℕ) (order : List ℕ) (plan : ℕ → ℕ) → Allowed P S rows (i ∷ order) plan →
