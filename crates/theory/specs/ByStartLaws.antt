@@ -38,7 +38,7 @@ stands-chained (i ∷ todo) = (
 )
 
 -- the first of the lowest of a list: those before it are higher, those after it no lower
-record FirstLowest (f : ℕ → ℕ) (list : List ℕ) : Type 0 where
+record LowestSplit (f : ℕ → ℕ) (list : List ℕ) : Type 0 where
   before : List ℕ
   low : ℕ
   after : List ℕ
@@ -47,7 +47,7 @@ record FirstLowest (f : ℕ → ℕ) (list : List ℕ) : Type 0 where
   no-lower : (j : ℕ) → List·Memᴰ j after → f low ≤ f j
 
 -- no element is below the first of the lowest
-lowest-of : (f : ℕ → ℕ) (list : List ℕ) (w : FirstLowest f list) (j : ℕ) → List·Memᴰ j list → f (w .low) ≤ f j
+lowest-of : (f : ℕ → ℕ) (list : List ℕ) (w : LowestSplit f list) (j : ℕ) → List·Memᴰ j list → f (w .low) ≤ f j
 lowest-of f list w j m =
     ⊎-elim
     (λ (n : List·Memᴰ j (w .before)). omega (arith, w .higher j n))
@@ -56,7 +56,7 @@ lowest-of f list w j m =
     (List·Memᴰ·append-cases (w .before) (rw (w .split) at m))
 
 -- a list that is not empty has a first of the lowest
-first-lowest : (f : ℕ → ℕ) (i : ℕ) (list : List ℕ) → FirstLowest f (i ∷ list)
+first-lowest : (f : ℕ → ℕ) (i : ℕ) (list : List ℕ) → LowestSplit f (i ∷ list)
 first-lowest f i [] =
     record {
       before = [];
@@ -68,7 +68,7 @@ first-lowest f i [] =
     }
 first-lowest f i (h ∷ list) = pick (first-lowest f h list)
   where
-    pick : FirstLowest f (h ∷ list) → FirstLowest f (i ∷ h ∷ list)
+    pick : LowestSplit f (h ∷ list) → LowestSplit f (i ∷ h ∷ list)
     pick w =
         by-test (leb (f i) (f (w .low)))
         (λ l.
@@ -95,7 +95,7 @@ first-lowest f i (h ∷ list) = pick (first-lowest f h list)
         })
 
 -- the first of the lowest of a chain comes before every other: it is lower, or it is no higher and stands in the relation
-lowest-first : (f : ℕ → ℕ) (R : ℕ → ℕ → Type 0) (list : List ℕ) (w : FirstLowest f list) → Chained R list →
+lowest-first : (f : ℕ → ℕ) (R : ℕ → ℕ → Type 0) (list : List ℕ) (w : LowestSplit f list) → Chained R list →
     (j : ℕ) → List·Memᴰ j (w .before ++ w .after) → (f (w .low) < f j) ⊎ ((f (w .low) ≡ f j) × R (w .low) j)
 lowest-first f R list w c j m =
     ⊎-elim
@@ -111,12 +111,12 @@ lowest-first f R list w c j m =
     (List·Memᴰ·append-cases (w .before) m)
 
 -- a chain without its first of the lowest is one
-without-lowest : (f : ℕ → ℕ) (R : ℕ → ℕ → Type 0) (list : List ℕ) (w : FirstLowest f list) → Chained R list →
+without-lowest : (f : ℕ → ℕ) (R : ℕ → ℕ → Type 0) (list : List ℕ) (w : LowestSplit f list) → Chained R list →
     Chained R (w .before ++ w .after)
 without-lowest f R list w c = chained-middle R (w .before) (w .low) (w .after) (rw (w .split) at c)
 
 -- a list without its first of the lowest is one shorter
-lowest-shorter : (f : ℕ → ℕ) (list : List ℕ) (w : FirstLowest f list) → length list ≡ suc (length (w .before ++ w .after))
+lowest-shorter : (f : ℕ → ℕ) (list : List ℕ) (w : LowestSplit f list) → length list ≡ suc (length (w .before ++ w .after))
 lowest-shorter f list w =
     ap length (w .split) ∙ omega (arith, length-append (w .before) (w .after), length-append (w .before) (w .low ∷ w .after))
 
@@ -128,7 +128,7 @@ sorted f R zero [] e c = ([], refl, tt)
 sorted f R zero (i ∷ list) e c = absurd (omega arith)
 sorted f R (suc n) [] e c = absurd (omega arith)
 sorted f R (suc n) (i ∷ list) e c =
-    let w : FirstLowest f (i ∷ list) = first-lowest f i list in
+    let w : LowestSplit f (i ∷ list) = first-lowest f i list in
     let rest : List ℕ = w .before ++ w .after in
     let (order, listed, chain) =
     sorted f R n rest (omega (arith, lowest-shorter f (i ∷ list) w)) (without-lowest f R (i ∷ list) w c) in (
