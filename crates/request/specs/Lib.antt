@@ -6,3 +6,4 @@ pub mod Encoding
 pub mod TestLaws
 pub mod Route
 pub mod RouteLaws
+pub mod CheckLaws
