@@ -10,11 +10,6 @@ use Rattle.theory.specs.Arrange.{Arrange}
 use Rattle.theory.specs.Orders.{factorial, spread, ordersOf, orders}
 use Rattle.theory.specs.Earlier.{StandsBefore, Earlier, Lower, Chained, NoRepeats, Rising}
 
--- the factorial of n + 1 is n + 1 times that of n
-pub factorial-suc : (n : ℕ) → factorial (suc n) ≡ suc n * factorial n
-unfolding factorial
-factorial-suc n = refl
-
 -- a factorial is never 0
 pub factorial-pos : (n : ℕ) → 0 < factorial n
 unfolding factorial
@@ -49,6 +44,11 @@ spread-ordersOf-length n before after sized =
 pub orders-length : (todo : List ℕ) → length (orders todo) ≡ factorial (length todo)
 unfolding orders
 orders-length todo = ordersOf-length (length todo) todo refl
+
+-- the factorial of n + 1 is n + 1 times that of n
+pub factorial-suc : (n : ℕ) → factorial (suc n) ≡ suc n * factorial n
+unfolding factorial
+factorial-suc n = refl
 
 -- what is spread begins with an element of the second list and goes on with an order of all the others
 spread-listed : (others : List ℕ → List (List ℕ)) (before after o : List ℕ) → List·Memᴰ o (spread others before after) →

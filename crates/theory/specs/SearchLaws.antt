@@ -27,27 +27,13 @@ use Rattle.theory.specs.Promises.{NoneBelow, Grounds, Shown, Finished, N
 pub search-too-narrow : (P : Problem) (S bound limit : ℕ) (rows : List Row) (todo : List ℕ) → S < bound →
     search P S bound limit rows todo ≡ too-narrow bound (length todo)
 unfolding search
-search-too-narrow P S bound limit rows todo h =
-    ap (λ (b : Bool). cond b (too-narrow bound (length todo)) (searchWalk P S bound limit rows todo)) (lt-ltb S bound h)
+search-too-narrow P S bound limit rows todo h = rw (lt-ltb S bound h)
 
 -- a bound within S: the walk decides
 pub search-walks : (P : Problem) (S bound limit : ℕ) (rows : List Row) (todo : List ℕ) → bound ≤ S →
     search P S bound limit rows todo ≡ searchWalk P S bound limit rows todo
 unfolding search
-search-walks P S bound limit rows todo h =
-    ap (λ (b : Bool). cond b (too-narrow bound (length todo)) (searchWalk P S bound limit rows todo)) (le-ltb S bound h)
-
--- with nothing to place the search is finished at once
-pub searchWalk-none : (P : Problem) (S bound limit : ℕ) (rows : List Row) → searchWalk P S bound limit rows [] ≡ at-once P bound rows
-unfolding searchWalk
-searchWalk-none P S bound limit rows = refl
-
--- with something to place the walk runs from its start, with S + 1 as the mark
-pub searchWalk-some : (P : Problem) (S bound limit : ℕ) (rows : List Row) (i : ℕ) (todo : List ℕ) →
-    searchWalk P S bound limit rows (i ∷ todo) ≡
-    conclude bound (walk P limit bound (length (i ∷ todo)) rows [] (i ∷ todo) (fresh (S + 1)))
-unfolding searchWalk
-searchWalk-some P S bound limit rows i todo = refl
+search-walks P S bound limit rows todo h = rw (le-ltb S bound h)
 
 -- the walk from its start takes in a first part of all orders
 pub start-walked : (P : Problem) (S bound limit : ℕ) (rows : List Row) (todo : List ℕ) →
@@ -555,3 +541,15 @@ search-bound P S bound limit rows todo =
     (λ (above : S < bound). subst carries (sym (search-too-narrow P S bound limit rows todo above)) refl)
     (λ (within : bound ≤ S). subst carries (sym (search-walks P S bound limit rows todo within)) (searchWalk-bound P S bound limit rows todo))
     (below-or-not S bound)
+
+-- with nothing to place the search is finished at once
+pub searchWalk-none : (P : Problem) (S bound limit : ℕ) (rows : List Row) → searchWalk P S bound limit rows [] ≡ at-once P bound rows
+unfolding searchWalk
+searchWalk-none P S bound limit rows = refl
+
+-- with something to place the walk runs from its start, with S + 1 as the mark
+pub searchWalk-some : (P : Problem) (S bound limit : ℕ) (rows : List Row) (i : ℕ) (todo : List ℕ) →
+    searchWalk P S bound limit rows (i ∷ todo) ≡
+    conclude bound (walk P limit bound (length (i ∷ todo)) rows [] (i ∷ todo) (fresh (S + 1)))
+unfolding searchWalk
+searchWalk-some P S bound limit rows i todo = refl
