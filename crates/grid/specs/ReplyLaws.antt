@@ -1,9 +1,9 @@
 -- Laws of the band and of the two replies: one for each way a reply can go.
 use Prim.Native.Nat.{ℕ, _+_, _-_, _≤_}
 use mathlib.Core.Path.{_≡_, refl, sym, _∙_, ap}
-use mathlib.Core.Bool.{Bool, true, false, _&&_}
+use mathlib.Core.Bool.{Bool, true, false, not, _&&_}
 use native.Mathlib.Omega.{arith}
-use borrow.Author.Tests.{leb-true, leb-false, le-leb, lt-leb}
+use borrow.Author.Tests.{leb-true, leb-false, le-leb, lt-leb, not-true, not-false}
 use lib.Dec.{leb}
 use lib.IntN.{ℤ}
 use Rattle.refusal.specs.declared.Refusal.the-variants.{BandOutside, BadWidth, EndAbove, NoBlock}
@@ -37,6 +37,14 @@ second-of-both false b h = absurd (let no : _≡_ {A = ℕ} 0 1 = cc in omega ar
 pub by-test : {X : Type 0} (b : Bool) → (b ≡ true → X) → (b ≡ false → X) → X
 by-test true held failed = held refl
 by-test false held failed = failed refl
+
+-- what a test was found to be holds, where its refusal was passed by
+pub passed-by : {found b : Bool} → found ≡ b → not found ≡ false → b ≡ true
+passed-by h k = sym h ∙ not-false _ k
+
+-- and fails, where its refusal was given
+pub refused-by : {found b : Bool} → found ≡ b → not found ≡ true → b ≡ false
+refused-by h k = sym h ∙ not-true _ k
 
 module _ {A : Type 0} where
   -- where the test fails, the refusal is given

@@ -2,13 +2,14 @@
 use borrow.Author.Needs.{needs}
 use native.Mathlib.Omega.{arith}
 use Prim.Native.Nat.{_+_, _*_}
-use lib.IntN.{pos, _+ℤ_}
 use mir.Syntax.{w16, w32}
-use mir.Val.{SFits}
 use mir.Facts.{toZ-ofZ, toZ-pos}
-use Rattle.grid.specs.SignedLaws.{widened, mag-sum}
+use Rattle.grid.specs.SignedLaws.{widened, number-fits, number-exact}
 use Rattle.grid.proofs.central_number.Statement.{statement}
 use Rattle.grid.proofs.central_number.Tie as tie
+
+returns : tie.Need-returns
+returns c = number-exact (c .args .n0) (2 * c .args .start + c .args .width) (c .fits .n0) (omega arith)
 
 mul-steps : tie.Need-mul-steps
 mul-steps c = search needs
@@ -24,14 +25,9 @@ cast-result-2 c = search needs
 
 add-result : tie.Need-add-result
 add-result c =
-    rw (widened w16 w32 (c .args .n0) tt (c .fits .n0), toZ-pos w32 {n = 2 * c .args .start + c .args .width} (omega arith))
-    (record { sfits = omega (arith, mag-sum (c .args .n0) (pos (2 * c .args .start + c .args .width))) })
-
-returns : tie.Need-returns
-returns c =
-    let small : SFits w32 (c .args .n0 +ℤ pos (2 * c .args .start + c .args .width)) =
-    record { sfits = omega (arith, mag-sum (c .args .n0) (pos (2 * c .args .start + c .args .width))) } in
-    rw (widened w16 w32 (c .args .n0) tt (c .fits .n0), toZ-pos w32 {n = 2 * c .args .start + c .args .width} (omega arith), toZ-ofZ small)
+    let steps = 2 * c .args .start + c .args .width in
+    rw (widened w16 w32 (c .args .n0) tt (c .fits .n0), toZ-pos w32 {n = steps} (omega arith))
+    (number-fits (c .args .n0) steps (c .fits .n0) (omega arith))
 
 pub central-number-spec : {M : Type 1} → statement M
 central-number-spec =

@@ -4,14 +4,18 @@ use Prim.Native.Nat.{_+_}
 use mathlib.Core.Path.{_≡_, sym, _∙_, ap}
 use mathlib.Core.Bool.{true, false}
 use borrow.Author.Needs.{needs}
-use borrow.Author.Tests.{not-true, not-false, leb-true}
+use borrow.Author.Tests.{leb-true}
 use mir.Facts.{toZ-ofZ}
 use mir.Val.{toZ, ofZ}
 use mir.Syntax.{w16, w64}
 use Rattle.grid.specs.Grid.{allowedBand, allowedWidth, endWithin, gapOf, evenNatural, halfOf}
-use Rattle.grid.specs.ReplyLaws.{block-outside, block-none, block-found, unnamed-width, unnamed-gap, named-end}
+use Rattle.grid.specs.ReplyLaws.{passed-by, refused-by, block-outside, block-none, block-found, unnamed-width, unnamed-gap, named-end}
 use Rattle.grid.proofs.from_frequency.Statement.{statement}
 use Rattle.grid.proofs.from_frequency.Tie as tie
+
+-- halving is asked only where the test was passed
+half-requires : tie.Need-half-requires
+half-requires c κs = search (needs, passed-by)
 
 allowed-requires : tie.Need-allowed-requires
 allowed-requires c κs = search needs
@@ -19,7 +23,7 @@ allowed-requires c κs = search needs
 returns : tie.Need-returns
 returns c =
     let a = c .before .before .args in
-    let allowed : allowedBand (a .band) ≡ false = sym (c .before .allowed .ensures) ∙ not-true _ (c .if1 .taken) in
+    let allowed : allowedBand (a .band) ≡ false = refused-by (c .before .allowed .ensures) (c .if1 .taken) in
     sym (block-outside (a .band) (a .n) (a .m) allowed)
 
 width-allowed-requires : tie.Need-width-allowed-requires
@@ -29,9 +33,9 @@ returns-2 : tie.Need-returns-2
 returns-2 c =
     let a = c .before .before .before .before .args in
     let allowed : allowedBand (a .band) ≡ true =
-    sym (c .before .before .before .allowed .ensures) ∙ not-false _ (c .before .before .if1 .left) in
+    passed-by (c .before .before .before .allowed .ensures) (c .before .before .if1 .left) in
     let width : allowedWidth (a .band .slots) (a .m) ≡ false =
-    sym (c .before .width-allowed .ensures) ∙ not-true _ (c .if2 .taken) in
+    refused-by (c .before .width-allowed .ensures) (c .if2 .taken) in
     sym (block-none (a .band) (a .n) (a .m) allowed (unnamed-width (a .band) (a .n) (a .m) width))
 
 gap-requires : tie.Need-gap-requires
@@ -44,19 +48,16 @@ returns-3 : tie.Need-returns-3
 returns-3 c =
     let a = c .before .before .before .before .before .before .before .before .args in
     let allowed : allowedBand (a .band) ≡ true =
-    sym (c .before .before .before .before .before .before .before .allowed .ensures) ∙ not-false _ (c .before .before .before .before .before .before .if1 .left) in
+    passed-by (c .before .before .before .before .before .before .before .allowed .ensures) (c .before .before .before .before .before .before .if1 .left) in
     let width : allowedWidth (a .band .slots) (a .m) ≡ true =
-    sym (c .before .before .before .before .before .width-allowed .ensures) ∙ not-false _ (c .before .before .before .before .if2 .left) in
+    passed-by (c .before .before .before .before .before .width-allowed .ensures) (c .before .before .before .before .if2 .left) in
     let edge : toZ w16 (ofZ w16 (a .band .n0)) ≡ a .band .n0 = toZ-ofZ (search needs) in
     let gap : toZ w64 (ofZ w64 (c .before .before .gap .result)) ≡ gapOf (a .band .n0) (a .n) (a .m) =
     toZ-ofZ (record { sfits = c .before .before .gap .ok }) ∙ c .before .before .gap .ensures ∙
     rw (edge, toZ-ofZ (c .before .before .before .before .before .before .before .before .fits .n)) in
     let odd : evenNatural (gapOf (a .band .n0) (a .n) (a .m)) ≡ false =
-    ap evenNatural (sym gap) ∙ sym (c .before .even-natural .ensures) ∙ not-true _ (c .if3 .taken) in
+    ap evenNatural (sym gap) ∙ refused-by (c .before .even-natural .ensures) (c .if3 .taken) in
     sym (block-none (a .band) (a .n) (a .m) allowed (unnamed-gap (a .band) (a .n) (a .m) width odd))
-
-half-requires : tie.Need-half-requires
-half-requires c κs = sym (c .before .even-natural .ensures) ∙ not-false _ (c .if3 .left)
 
 end-within-requires : tie.Need-end-within-requires
 end-within-requires c κs = search needs
@@ -65,19 +66,19 @@ returns-4 : tie.Need-returns-4
 returns-4 c =
     let a = c .before .before .before .before .before .before .before .before .before .before .before .args in
     let allowed : allowedBand (a .band) ≡ true =
-    sym (c .before .before .before .before .before .before .before .before .before .before .allowed .ensures) ∙ not-false _ (c .before .before .before .before .before .before .before .before .before .if1 .left) in
+    passed-by (c .before .before .before .before .before .before .before .before .before .before .allowed .ensures) (c .before .before .before .before .before .before .before .before .before .if1 .left) in
     let width : allowedWidth (a .band .slots) (a .m) ≡ true =
-    sym (c .before .before .before .before .before .before .before .before .width-allowed .ensures) ∙ not-false _ (c .before .before .before .before .before .before .before .if2 .left) in
+    passed-by (c .before .before .before .before .before .before .before .before .width-allowed .ensures) (c .before .before .before .before .before .before .before .if2 .left) in
     let edge : toZ w16 (ofZ w16 (a .band .n0)) ≡ a .band .n0 = toZ-ofZ (search needs) in
     let gap : toZ w64 (ofZ w64 (c .before .before .before .before .before .gap .result)) ≡ gapOf (a .band .n0) (a .n) (a .m) =
     toZ-ofZ (record { sfits = c .before .before .before .before .before .gap .ok }) ∙ c .before .before .before .before .before .gap .ensures ∙
     rw (edge, toZ-ofZ (c .before .before .before .before .before .before .before .before .before .before .before .fits .n)) in
     let even : evenNatural (gapOf (a .band .n0) (a .n) (a .m)) ≡ true =
-    ap evenNatural (sym gap) ∙ sym (c .before .before .before .before .even-natural .ensures) ∙ not-false _ (c .before .before .before .if3 .left) in
+    ap evenNatural (sym gap) ∙ passed-by (c .before .before .before .before .even-natural .ensures) (c .before .before .before .if3 .left) in
     let start : c .before .before .half .result ≡ halfOf (gapOf (a .band .n0) (a .n) (a .m)) =
     c .before .before .half .ensures ∙ ap halfOf gap in
     let end : endWithin (a .band .slots) (halfOf (gapOf (a .band .n0) (a .n) (a .m))) (a .m) ≡ false =
-    rw start at (sym (c .before .end-within .ensures) ∙ not-true _ (c .if4 .taken)) in
+    rw start at (refused-by (c .before .end-within .ensures) (c .if4 .taken)) in
     sym (block-none (a .band) (a .n) (a .m) allowed (named-end (a .band) (a .n) (a .m) width even ∙ end))
 
 cast-t14 : tie.Need-cast-t14
@@ -85,26 +86,26 @@ cast-t14 c =
     let a = c .before .before .before .before .before .before .before .before .before .before .before .args in
     let start = c .before .before .half .result in
     let end : endWithin (a .band .slots) start (a .m) ≡ true =
-    sym (c .before .end-within .ensures) ∙ not-false _ (c .if4 .left) in
+    passed-by (c .before .end-within .ensures) (c .if4 .left) in
     record { fits = omega (arith, leb-true (start + a .m) (a .band .slots) end) }
 
 returns-5 : tie.Need-returns-5
 returns-5 c =
     let a = c .before .before .before .before .before .before .before .before .before .before .before .args in
     let allowed : allowedBand (a .band) ≡ true =
-    sym (c .before .before .before .before .before .before .before .before .before .before .allowed .ensures) ∙ not-false _ (c .before .before .before .before .before .before .before .before .before .if1 .left) in
+    passed-by (c .before .before .before .before .before .before .before .before .before .before .allowed .ensures) (c .before .before .before .before .before .before .before .before .before .if1 .left) in
     let width : allowedWidth (a .band .slots) (a .m) ≡ true =
-    sym (c .before .before .before .before .before .before .before .before .width-allowed .ensures) ∙ not-false _ (c .before .before .before .before .before .before .before .if2 .left) in
+    passed-by (c .before .before .before .before .before .before .before .before .width-allowed .ensures) (c .before .before .before .before .before .before .before .if2 .left) in
     let edge : toZ w16 (ofZ w16 (a .band .n0)) ≡ a .band .n0 = toZ-ofZ (search needs) in
     let gap : toZ w64 (ofZ w64 (c .before .before .before .before .before .gap .result)) ≡ gapOf (a .band .n0) (a .n) (a .m) =
     toZ-ofZ (record { sfits = c .before .before .before .before .before .gap .ok }) ∙ c .before .before .before .before .before .gap .ensures ∙
     rw (edge, toZ-ofZ (c .before .before .before .before .before .before .before .before .before .before .before .fits .n)) in
     let even : evenNatural (gapOf (a .band .n0) (a .n) (a .m)) ≡ true =
-    ap evenNatural (sym gap) ∙ sym (c .before .before .before .before .even-natural .ensures) ∙ not-false _ (c .before .before .before .if3 .left) in
+    ap evenNatural (sym gap) ∙ passed-by (c .before .before .before .before .even-natural .ensures) (c .before .before .before .if3 .left) in
     let start : c .before .before .half .result ≡ halfOf (gapOf (a .band .n0) (a .n) (a .m)) =
     c .before .before .half .ensures ∙ ap halfOf gap in
     let end : endWithin (a .band .slots) (halfOf (gapOf (a .band .n0) (a .n) (a .m))) (a .m) ≡ true =
-    rw start at (sym (c .before .end-within .ensures) ∙ not-false _ (c .if4 .left)) in
+    rw start at (passed-by (c .before .end-within .ensures) (c .if4 .left)) in
     rw start (sym (block-found (a .band) (a .n) (a .m) allowed (named-end (a .band) (a .n) (a .m) width even ∙ end)))
 
 pub from-frequency-spec : {M : Type 1} → statement M
