@@ -1,0 +1,3 @@
+-- What is printed: numbers in decimal, lines of words and numbers, and the page that holds them.
+pub mod Text
+pub mod TextLaws
