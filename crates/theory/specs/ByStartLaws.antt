@@ -12,7 +12,7 @@ use Rattle.theory.specs.Earlier.{StandsBefore, Chained}
 use Rattle.theory.specs.ByStart.{NeverFalling, ByStart}
 use Rattle.theory.specs.TestLaws.{by-test}
 use Rattle.theory.specs.ArrangeLaws.{mem-wider, arrange-mem}
-use Rattle.theory.specs.OrdersLaws.{chained-split}
+use Rattle.theory.specs.EarlierLaws.{chained-split}
 
 -- a chain stays one under a weaker relation
 pub chained-weaken : (R Q : ℕ → ℕ → Type 0) → ((i j : ℕ) → R i j → Q i j) → (list : List ℕ) → Chained R list → Chained Q list

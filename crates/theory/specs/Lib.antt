@@ -17,6 +17,7 @@ pub mod Bound
 pub mod BoundLaws
 pub mod Orders
 pub mod Earlier
+pub mod EarlierLaws
 pub mod OrdersLaws
 pub mod Walk
 pub mod WalkBranchLaws

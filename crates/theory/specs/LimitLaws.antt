@@ -2,15 +2,15 @@
 use Prim.Native.Nat.{ℕ, zero, suc, _+_, _≤_, _<_}
 use mathlib.Core.Bool.{true, false}
 use mathlib.Core.List.{List, [], _∷_, _++_}
-use mathlib.Core.Logic.{_⊎_, ⊎-elim}
+use mathlib.Core.Logic.{⊎-elim}
 use mathlib.Core.Path.{_≡_, refl, sym, _∙_, ap, subst}
 use native.Mathlib.Omega.{arith}
 use lib.ListN.{length, length-append}
 use Rattle.theory.specs.Problem.{Problem, Row, place, top}
-use Rattle.theory.specs.Walk.{Course, going, at-bound, out-of-steps, Tally, stepped, exhausted, leave, goes-on, complete, judge, step, siblings, walk}
-use Rattle.theory.specs.WalkBranchLaws.{judge-left, judge-deeper, step-spent, step-taken, siblings-none, siblings-on, siblings-stop}
+use Rattle.theory.specs.Walk.{going, out-of-steps, Tally, stepped, exhausted, goes-on, complete, judge, step, siblings, walk}
+use Rattle.theory.specs.WalkBranchLaws.{judge-left, judge-deeper, step-spent, step-taken, siblings-on, siblings-stop}
 use Rattle.theory.specs.TriedLaws.{below-or-not}
-use Rattle.theory.specs.WalkLaws.{going-not-out, on-or-ended, judge-walked, step-walked, siblings-walked}
+use Rattle.theory.specs.WalkLaws.{going-not-out, on-or-ended, judge-walked, siblings-walked}
 
 module _ (P : Problem) (bound limit other : ℕ) where
   -- a tally that a walk may end with under the other limit too: it did not run out of steps, and took no more than that limit

@@ -10,7 +10,7 @@ use lib.Dec.{ltb}
 use Rattle.theory.specs.Orders.{countUp, listing}
 use Rattle.theory.specs.Earlier.{Chained, Rising, NoRepeats}
 use Rattle.theory.specs.TestLaws.{by-test}
-use Rattle.theory.specs.OrdersLaws.{rising-no-repeats}
+use Rattle.theory.specs.EarlierLaws.{rising-no-repeats}
 
 -- n numbers are counted up
 pub countUp-length : (n k : ℕ) → length (countUp n k) ≡ n

@@ -1,14 +1,43 @@
 -- The orders of a list are its n! orders, each of them once, the earlier ones first.
 use Prim.Native.Nat.{ℕ, zero, suc, _+_, _*_, _<_}
-use mathlib.Core.List.{List, [], _∷_, _++_, map, List·Memᴰ, List·Memᴰ·head, List·Memᴰ·tail, List·Memᴰ·cases-cons, List·Memᴰ·append-cases, List·Memᴰ·eq-of-singleton, List·Memᴰ·not-nil, Memᴰ·append-left, Memᴰ·append-right, Memᴰ·map, Memᴰ·of-map, append-assoc}
-use mathlib.Core.Logic.{_⊎_, inl, inr, ⊎-elim}
+use mathlib.Core.List.{
+  List,
+  [],
+  _∷_,
+  _++_,
+  map,
+  List·Memᴰ,
+  List·Memᴰ·head,
+  List·Memᴰ·tail,
+  List·Memᴰ·cases-cons,
+  List·Memᴰ·append-cases,
+  List·Memᴰ·eq-of-singleton,
+  List·Memᴰ·not-nil,
+  Memᴰ·append-left,
+  Memᴰ·append-right,
+  Memᴰ·map,
+  Memᴰ·of-map,
+  append-assoc,
+  head-eq-of-cons-eq,
+  tail-eq-of-cons-eq,
+}
+use mathlib.Core.Logic.{inl, inr, ⊎-elim}
 use mathlib.Core.Path.{_≡_, refl, sym, _∙_, ap, subst}
 use native.Mathlib.Omega.{arith}
 use native.Mathlib.Nat.{zero-mul, suc-mul}
 use lib.ListN.{length, length-append, length-map}
 use Rattle.theory.specs.Arrange.{Arrange}
 use Rattle.theory.specs.Orders.{factorial, spread, ordersOf, orders}
-use Rattle.theory.specs.Earlier.{StandsBefore, Earlier, Lower, Chained, NoRepeats, Rising}
+use Rattle.theory.specs.Earlier.{Earlier, Chained, NoRepeats}
+use Rattle.theory.specs.EarlierLaws.{
+  chained-append,
+  chained-map,
+  chained-split,
+  earlier-more,
+  stands-here,
+  earlier-irreflexive,
+  earlier-one-way,
+}
 
 -- a factorial is never 0
 pub factorial-pos : (n : ℕ) → 0 < factorial n
@@ -111,73 +140,6 @@ pub arrange-orders : (todo o : List ℕ) → Arrange o todo → List·Memᴰ o (
 unfolding orders
 arrange-orders todo o r = arrange-ordersOf (length todo) todo o refl r
 
--- a chain followed by a chain is one, if each element of the first stands in the relation to each of the second
-chained-append : {A : Type 0} (R : A → A → Type 0) (xs ys : List A) → Chained R xs → Chained R ys →
-    ((x y : A) → List·Memᴰ x xs → List·Memᴰ y ys → R x y) → Chained R (xs ++ ys)
-unfolding Chained
-chained-append R [] ys cx cy across = cy
-chained-append {A} R (x ∷ xs) ys cx cy across = (
-  λ (y : A) (m : List·Memᴰ y (xs ++ ys)).
-      ⊎-elim
-      (λ (h : List·Memᴰ y xs). cx .0 y h)
-      (λ (h : List·Memᴰ y ys). across x y (List·Memᴰ·head refl) h)
-      (List·Memᴰ·append-cases xs m),
-  chained-append R xs ys (cx .1) cy (λ (u v : A) mu mv. across u v (List·Memᴰ·tail mu) mv),
-)
-
--- a chain is a chain again after a map that keeps the relation
-chained-map : {A : Type 0} (R Q : A → A → Type 0) (f : A → A) → ((x y : A) → R x y → Q (f x) (f y)) →
-    (xs : List A) → Chained R xs → Chained Q (map f xs)
-unfolding Chained
-chained-map R Q f keep [] c = tt
-chained-map {A} R Q f keep (x ∷ xs) c = (
-  λ (y : A) (m : List·Memᴰ y (map f xs)).
-      let w = Memᴰ·of-map f xs m in subst (λ (z : A). Q (f x) z) (w .2) (keep x (w .0) (c .0 (w .0) (w .1))),
-  chained-map R Q f keep xs (c .1),
-)
-
--- in a chain, what stands earlier stands in the relation to what stands later
-pub chained-split : {A : Type 0} (R : A → A → Type 0) (xs : List A) (x : A) (ys : List A) (y : A) →
-    Chained R (xs ++ (x ∷ ys)) → List·Memᴰ y ys → R x y
-unfolding Chained
-chained-split R [] x ys y c m = c .0 y m
-chained-split R (z ∷ xs) x ys y c m = chained-split R xs x ys y (c .1) m
-
--- one more element in the list changes nothing of who stands before whom
-stands-more : (i j k : ℕ) (before after : List ℕ) → StandsBefore i j (before ++ after) → StandsBefore i j (before ++ (k ∷ after))
-unfolding StandsBefore
-stands-more i j k [] after h = inr h
-stands-more i j k (b ∷ before) after h =
-    ⊎-elim
-    (λ (e : (i ≡ b) × List·Memᴰ j (before ++ after)).
-    inl (
-      e .0,
-      ⊎-elim
-          (λ (m : List·Memᴰ j before). Memᴰ·append-left (k ∷ after) m)
-          (λ (m : List·Memᴰ j after). Memᴰ·append-right before (List·Memᴰ·tail m))
-          (List·Memᴰ·append-cases before (e .1)),
-    ))
-    (λ (e : StandsBefore i j (before ++ after)). inr (stands-more i j k before after e))
-    h
-
--- one more element in the list changes nothing of which order comes first
-earlier-more : (o other : List ℕ) (k : ℕ) (before after : List ℕ) → Earlier (before ++ after) o other →
-    Earlier (before ++ (k ∷ after)) o other
-unfolding Earlier StandsBefore
-earlier-more [] other k before after h = h
-earlier-more (i ∷ o) [] k before after h = h
-earlier-more (i ∷ o) (j ∷ other) k before after h =
-    ⊎-elim
-    (λ (e : StandsBefore i j (before ++ after)). inl (stands-more i j k before after e))
-    (λ (e : (i ≡ j) × Earlier (before ++ after) o other). inr (e .0, earlier-more o other k before after (e .1)))
-    h
-
--- an element stands before each that comes after it
-stands-here : (i j : ℕ) (before after : List ℕ) → List·Memᴰ j after → StandsBefore i j (before ++ (i ∷ after))
-unfolding StandsBefore
-stands-here i j [] after m = inl (refl, m)
-stands-here i j (b ∷ before) after m = inr (stands-here i j before after m)
-
 -- of the orders spread, the earlier stands before the later, if that holds of the orders of all the others
 spread-chained : (others : List ℕ → List (List ℕ)) → ((l : List ℕ) → Chained (Earlier l) (others l)) →
     (before after : List ℕ) → Chained (Earlier (before ++ after)) (spread others before after)
@@ -230,54 +192,47 @@ orders-earlier todo before after o other split m =
     (subst (Chained (Earlier todo)) split (ordersOf-chained (length todo) todo))
     m
 
--- in a list without repeats, no element stands before itself
-stands-differ : (todo : List ℕ) → NoRepeats todo → (i : ℕ) → StandsBefore i i todo → ⊥
-unfolding NoRepeats Chained StandsBefore
-stands-differ [] c i h = h
-stands-differ (k ∷ todo) c i h =
-    ⊎-elim
-    (λ (e : (i ≡ k) × List·Memᴰ i todo). c .0 i (e .1) (sym (e .0)))
-    (λ (e : StandsBefore i i todo). stands-differ todo (c .1) i e)
-    h
-
--- of a list without repeats, no order is earlier than itself
-pub earlier-irreflexive : (todo : List ℕ) → NoRepeats todo → (o : List ℕ) → Earlier todo o o → ⊥
-unfolding Earlier
-earlier-irreflexive todo c [] h = h
-earlier-irreflexive todo c (i ∷ o) h =
-    ⊎-elim
-    (λ (e : StandsBefore i i todo). stands-differ todo c i e)
-    (λ (e : (i ≡ i) × Earlier todo o o). earlier-irreflexive todo c o (e .1))
-    h
-
 -- of a list without repeats, no order is listed twice
 pub orders-once : (todo : List ℕ) → NoRepeats todo → (before after : List (List ℕ)) (o : List ℕ) →
     orders todo ≡ before ++ (o ∷ after) → List·Memᴰ o after → ⊥
 orders-once todo c before after o split m = earlier-irreflexive todo c o (orders-earlier todo before after o o split m)
 
--- a rising list has no repeats
-pub rising-no-repeats : (todo : List ℕ) → Rising todo → NoRepeats todo
-unfolding Rising NoRepeats Chained
-rising-no-repeats [] c = tt
-rising-no-repeats (i ∷ todo) c = (λ (j : ℕ) m e. omega (arith, c .0 j m), rising-no-repeats todo (c .1))
-
--- in a rising list, what stands before is lower
-stands-lower : (todo : List ℕ) → Rising todo → (i j : ℕ) → StandsBefore i j todo → i < j
-unfolding Rising Chained StandsBefore
-stands-lower [] c i j h = absurd h
-stands-lower (k ∷ todo) c i j h =
+-- of a list without repeats, an order earlier than a listed one is listed before it
+pub earlier-listed-before : (todo : List ℕ) → NoRepeats todo → (before after : List (List ℕ)) (o other : List ℕ) →
+    orders todo ≡ before ++ (o ∷ after) → Arrange other todo → Earlier todo other o → List·Memᴰ other before
+earlier-listed-before todo c before after o other split listed h =
     ⊎-elim
-    (λ (e : (i ≡ k) × List·Memᴰ j todo). subst (λ (n : ℕ). n < j) (sym (e .0)) (c .0 j (e .1)))
-    (λ (e : StandsBefore i j todo). stands-lower todo (c .1) i j e)
-    h
-
--- of a rising list, the earlier order has the lower number at the first difference
-pub earlier-lower : (todo : List ℕ) → Rising todo → (o other : List ℕ) → Earlier todo o other → Lower o other
-unfolding Earlier Lower
-earlier-lower todo c [] other h = h
-earlier-lower todo c (i ∷ o) [] h = h
-earlier-lower todo c (i ∷ o) (j ∷ other) h =
+    (λ (m : List·Memᴰ other before). m)
+    (λ (m : List·Memᴰ other (o ∷ after)).
     ⊎-elim
-    (λ (e : StandsBefore i j todo). inl (stands-lower todo c i j e))
-    (λ (e : (i ≡ j) × Earlier todo o other). inr (e .0, earlier-lower todo c o other (e .1)))
-    h
+    (λ (e : other ≡ o). absurd (earlier-irreflexive todo c o (subst (λ (x : List ℕ). Earlier todo x o) e h)))
+    (λ (later : List·Memᴰ other after).
+    absurd (earlier-one-way todo c other o h (orders-earlier todo before after o other split later)))
+    (List·Memᴰ·cases-cons m))
+    (List·Memᴰ·append-cases before (subst (List·Memᴰ other) split (arrange-orders todo other listed)))
+
+-- two places of the same element in one list, neither with that element after it, are the same place
+split-once : (before after before₂ after₂ : List (List ℕ)) (o : List ℕ) → before ++ (o ∷ after) ≡ before₂ ++ (o ∷ after₂) →
+    (List·Memᴰ o after → ⊥) → (List·Memᴰ o after₂ → ⊥) → before ≡ before₂
+split-once [] after [] after₂ o e n n₂ = refl
+split-once [] after (x ∷ before₂) after₂ o e n n₂ =
+    absurd (n (subst (List·Memᴰ o) (sym (tail-eq-of-cons-eq e)) (Memᴰ·append-right before₂ (List·Memᴰ·head refl))))
+split-once (x ∷ before) after [] after₂ o e n n₂ =
+    absurd (n₂ (subst (List·Memᴰ o) (tail-eq-of-cons-eq e) (Memᴰ·append-right before (List·Memᴰ·head refl))))
+split-once (x ∷ before) after (y ∷ before₂) after₂ o e n n₂ =
+    ap (λ (z : List ℕ). z ∷ before) (head-eq-of-cons-eq e)
+    ∙ ap (λ (l : List (List ℕ)). y ∷ l) (split-once before after before₂ after₂ o (tail-eq-of-cons-eq e) n n₂)
+
+-- of a list without repeats, an order has one rank: the orders listed before it are the same wherever it is found
+pub orders-rank : (todo : List ℕ) → NoRepeats todo → (before after before₂ after₂ : List (List ℕ)) (o : List ℕ) →
+    orders todo ≡ before ++ (o ∷ after) → orders todo ≡ before₂ ++ (o ∷ after₂) → before ≡ before₂
+orders-rank todo c before after before₂ after₂ o split split₂ =
+    split-once
+    before
+    after
+    before₂
+    after₂
+    o
+    (sym split ∙ split₂)
+    (orders-once todo c before after o split)
+    (orders-once todo c before₂ after₂ o split₂)

@@ -1,22 +1,22 @@
 -- The search keeps its promises.
-use Prim.Native.Nat.{ℕ, zero, suc, _+_, _≤_, _<_, max}
-use mathlib.Core.Bool.{Bool, true, false, cond, false≢true}
+use Prim.Native.Nat.{ℕ, suc, _+_, _≤_, _<_}
+use mathlib.Core.Bool.{true, false≢true}
 use mathlib.Core.List.{List, [], _∷_, _++_, List·Memᴰ, List·Memᴰ·head, List·Memᴰ·not-nil, Memᴰ·append-right, append-nil, append-assoc}
 use mathlib.Core.Logic.{_⊎_, inl, inr, ⊎-elim, _≢_}
 use mathlib.Core.Path.{_≡_, refl, sym, _∙_, ap, subst}
 use native.Mathlib.Omega.{arith}
 use borrow.Author.Tests.{lt-ltb, le-ltb}
 use lib.ListN.{length, length-append}
-use Rattle.theory.specs.Problem.{Problem, Row, fill, top, endOf, Allowed, planEnd, startIn}
+use Rattle.theory.specs.Problem.{Problem, Row, fill, top, Allowed, planEnd, startIn}
 use Rattle.theory.specs.ProblemLaws.{planEnd-least, planEnd-nil}
 use Rattle.theory.specs.FillLaws.{fill-planEnd, fill-allowed}
 use Rattle.theory.specs.SufficesLaws.{some-order-suffices}
 use Rattle.theory.specs.Arrange.{Arrange}
 use Rattle.theory.specs.Orders.{factorial, ordersOf, orders}
-use Rattle.theory.specs.OrdersLaws.{orders-length, orders-arrange, arrange-orders}
-use Rattle.theory.specs.Earlier.{NoRepeats}
+use Rattle.theory.specs.OrdersLaws.{orders-length, orders-arrange, arrange-orders, earlier-listed-before}
+use Rattle.theory.specs.Earlier.{Earlier, NoRepeats}
 use Rattle.theory.specs.Walk.{Best, none-met, met, Course, going, at-bound, out-of-steps, Tally, walk}
-use Rattle.theory.specs.Search.{Outcome, finished, nothing-fits, unfinished, unfinished-empty, Answer, fresh, outcomeOf, conclude, too-narrow, at-once, searchWalk, search}
+use Rattle.theory.specs.Search.{finished, nothing-fits, unfinished, unfinished-empty, Answer, fresh, outcomeOf, conclude, too-narrow, at-once, searchWalk, search}
 use Rattle.theory.specs.Tried.{Lead, leadOf, endsAt, leadBy, try, FirstLowest, Leads, unbeaten, taken, EndsAtBound, Walked}
 use Rattle.theory.specs.TriedLaws.{below-or-not, try-append, try-better, try-leads, leads-mark, leads-least}
 use Rattle.theory.specs.WalkLaws.{going-not-out, at-bound-not-out, walk-walked, walked-leads}
@@ -414,6 +414,12 @@ search-finished P S bound limit rows todo e grounds h =
     (Promise P S bound limit rows todo (search P S bound limit rows todo))
     h
     (search-promise P S bound limit rows todo grounds)
+
+-- finished: every order that is earlier by listing position than the one shown ends higher
+pub finished-earliest : (P : Problem) (S bound : ℕ) (rows : List Row) (todo : List ℕ) (a : Answer) (e : ℕ) → NoRepeats todo →
+    (f : Finished P S bound rows todo a e) → (o : List ℕ) → Arrange o todo → Earlier todo o (f .order) → e < endsAt P rows o
+finished-earliest P S bound rows todo a e once f o listed h =
+    f .first o (earlier-listed-before todo once (f .earlier) (f .later) (f .order) o (f .listed) listed h)
 
 -- nothing fits: there is no allowed plan
 pub search-nothing-fits : (P : Problem) (S bound limit : ℕ) (rows : List Row) (todo : List ℕ) → Grounds P S bound rows todo →

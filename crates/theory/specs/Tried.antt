@@ -7,7 +7,7 @@ use mathlib.Core.Path.{_≡_}
 use lib.Dec.{ltb}
 use lib.ListN.{length}
 use Rattle.theory.specs.Problem.{Problem, Row, fill, top}
-use Rattle.theory.specs.Walk.{Best, none-met, met, Course, going, at-bound, out-of-steps, Tally}
+use Rattle.theory.specs.Walk.{Best, met, going, at-bound, out-of-steps, Tally}
 
 -- the mark to beat, and the best plan so far
 pub record Lead : Type 0 where

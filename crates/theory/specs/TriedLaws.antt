@@ -1,6 +1,6 @@
 -- Orders tried one after the other leave the first of the lowest in the lead.
 use Prim.Native.Nat.{ℕ, _≤_, _<_}
-use mathlib.Core.Bool.{Bool, true, false, cond}
+use mathlib.Core.Bool.{Bool, cond}
 use mathlib.Core.List.{List, [], _∷_, _++_, map, List·Memᴰ, List·Memᴰ·head, List·Memᴰ·tail, List·Memᴰ·cases-cons, List·Memᴰ·append-cases, List·Memᴰ·not-nil, append-assoc}
 use mathlib.Core.Logic.{_⊎_, inl, inr, ⊎-elim}
 use mathlib.Core.Path.{_≡_, refl, sym, _∙_, ap, subst}
@@ -10,8 +10,8 @@ use lib.Dec.{ltb, eqb}
 use Rattle.theory.specs.Problem.{Problem, Row, place, fill, top}
 use Rattle.theory.specs.TestLaws.{by-test}
 use Rattle.theory.specs.ProblemLaws.{top-fill}
-use Rattle.theory.specs.Walk.{Best, met}
-use Rattle.theory.specs.Tried.{Lead, endsAt, leadBy, try, FirstLowest, Leads, unbeaten, taken}
+use Rattle.theory.specs.Walk.{met}
+use Rattle.theory.specs.Tried.{Lead, endsAt, leadBy, try, Leads, unbeaten, taken}
 
 -- a number is below another or not
 pub below-or-not : (a b : ℕ) → (a < b) ⊎ (b ≤ a)

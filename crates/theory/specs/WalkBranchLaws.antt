@@ -7,7 +7,7 @@ use borrow.Author.Tests.{lt-ltb, le-ltb, le-leb, lt-leb, eq-eqb, ne-eqb}
 use lib.Dec.{eqb}
 use Rattle.theory.specs.Problem.{Problem, Row, place, top}
 use Rattle.theory.specs.Orders.{factorial}
-use Rattle.theory.specs.Walk.{Best, met, Course, going, at-bound, out-of-steps, Tally, stepped, leave, exhausted, equalled, improved, goes-on, complete, judge, step, siblings, walk}
+use Rattle.theory.specs.Walk.{at-bound, Tally, stepped, leave, exhausted, equalled, improved, goes-on, complete, judge, step, siblings, walk}
 
 module _ (P : Problem) (limit bound : ℕ) where
   -- a complete order not below the mark is only counted

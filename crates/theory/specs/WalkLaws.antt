@@ -1,26 +1,28 @@
 -- The walk takes in a first part of all orders, counts each of them, and keeps the first of the lowest.
 use Prim.Native.Nat.{ℕ, zero, suc, _+_, _*_, _≤_, _<_, max}
-use mathlib.Core.Bool.{Bool, true, false, cond}
-use mathlib.Core.List.{List, [], _∷_, _++_, map, List·Memᴰ, List·Memᴰ·head, nil≢cons, cons≢nil, append-assoc, append-nil, map-append}
+use mathlib.Core.Bool.{true, false}
+use mathlib.Core.List.{List, [], _∷_, _++_, map, cons≢nil, append-assoc, append-nil, map-append}
 use mathlib.Core.Logic.{_⊎_, inl, inr, ⊎-elim, _≢_}
 use mathlib.Core.Path.{_≡_, refl, sym, _∙_, ap, subst}
 use native.Mathlib.Omega.{arith}
 use lib.ListN.{length, length-append, length-map}
 use Rattle.theory.specs.Problem.{Problem, Row, place, fill, top}
-use Rattle.theory.specs.Orders.{factorial, spread, ordersOf, orders}
+use Rattle.theory.specs.Orders.{factorial, spread, ordersOf}
 use Rattle.theory.specs.OrdersLaws.{factorial-pos, ordersOf-length, spread-ordersOf-length}
-use Rattle.theory.specs.Walk.{Best, met, Course, going, at-bound, out-of-steps, Tally, stepped, leave, exhausted, equalled, improved, goes-on, complete, judge, step, siblings, walk}
-use Rattle.theory.specs.WalkBranchLaws.{complete-better, complete-at-bound, complete-above-bound, complete-equalled, judge-complete, judge-left, judge-deeper, step-spent, step-taken, siblings-none, siblings-on, siblings-stop, walk-complete, walk-siblings}
-use Rattle.theory.specs.Tried.{Lead, leadOf, endsAt, leadBy, try, FirstLowest, Leads, EndsAtBound, Walked}
+use Rattle.theory.specs.Walk.{met, Course, going, at-bound, out-of-steps, Tally, stepped, leave, exhausted, equalled, improved, goes-on, complete, judge, step, siblings, walk}
+use Rattle.theory.specs.WalkBranchLaws.{complete-at-bound, complete-above-bound, complete-equalled, judge-left, judge-deeper, step-spent, step-taken, siblings-none, siblings-on, siblings-stop}
+use Rattle.theory.specs.Tried.{Lead, leadOf, endsAt, leadBy, try, Leads, Walked}
 use Rattle.theory.specs.TriedLaws.{below-or-not, equal-or-not, ends-above-rows, try-append, try-map, try-none, try-better, try-equalled, try-leads, leads-mark}
 
--- a walk that goes on neither met the bound nor ran out of steps
+-- a walk that goes on has not met the bound
 going-not-at-bound : going ≡ at-bound → ⊥
 going-not-at-bound e = let z : _≡_ {A = ℕ} 0 1 = cc in omega arith
 
+-- a walk that goes on did not run out of steps
 pub going-not-out : going ≡ out-of-steps → ⊥
 going-not-out e = let z : _≡_ {A = ℕ} 0 1 = cc in omega arith
 
+-- a walk that met the bound did not run out of steps
 pub at-bound-not-out : at-bound ≡ out-of-steps → ⊥
 at-bound-not-out e = let z : _≡_ {A = ℕ} 0 1 = cc in omega arith
 
