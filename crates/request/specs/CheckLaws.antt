@@ -6,14 +6,15 @@ use mathlib.Core.Logic.{_≢_}
 use mathlib.Core.Path.{_≡_, refl, sym, _∙_, ap}
 use native.Mathlib.Omega.{arith}
 use native.Mathlib.Numerals.{add-one}
-use borrow.Author.Tests.{lt-ltb, le-ltb, eq-eqb, ne-eqb}
+use borrow.Author.Tests.{ltb-true, ltb-false, lt-ltb, le-ltb, eq-eqb, ne-eqb, leb-true}
 use lib.ListN.{length, take, drop, getD, drop-of-length-le}
 use lib.Seq.{drop-cons}
-use lib.Dec.{ltb, eqb}
+use lib.Dec.{leb, ltb, eqb}
 use Rattle.refusal.specs.declared.Refusal.{Refusal}
 use Rattle.refusal.specs.declared.Refusal.the-variants.{WrongTag, WrongLength, BandOutside, BadLink, TooManyDemands, BadRoute, IdentUsed, BadWidth}
 use Rattle.grid.specs.declared.Band.{Band}
 use Rattle.grid.specs.Grid.{allowedBand}
+use Rattle.grid.specs.ReplyLaws.{by-test, first-of-both, second-of-both}
 use Rattle.request.specs.declared.Link.{Link}
 use Rattle.request.specs.declared.Checked.{Checked}
 use Rattle.request.specs.declared.Checked.the-variants.{Sound, Refused}
@@ -30,11 +31,34 @@ pub then-refused : (a next : Checked) (why : Refusal) → a ≡ Refused why → 
 unfolding then
 then-refused a next why h = ap (λ (x : Checked). then x next) h
 
--- a run of checks may be taken in two parts
-pub then-assoc : (a b c : Checked) → then (then a b) c ≡ then a (then b c)
+-- a run of checks that passes passes at its first
+pub first-sound : (a next : Checked) → then a next ≡ Sound → a ≡ Sound
 unfolding then
-then-assoc Sound b c = refl
-then-assoc (Refused why) b c = refl
+first-sound Sound next h = refl
+first-sound (Refused why) next h = h
+
+-- and at the others
+pub next-sound : (a next : Checked) → then a next ≡ Sound → next ≡ Sound
+unfolding then
+next-sound Sound next h = h
+next-sound (Refused why) next h = absurd (let z : _≡_ {A = ℕ} 0 1 = cc in omega arith)
+
+-- four checks and what comes after them: the four first
+four-first : (a b c d next : Checked) → then a (then b (then c (then d next))) ≡ then (then a (then b (then c d))) next
+unfolding then
+four-first (Refused why) b c d next = refl
+four-first Sound (Refused why) c d next = refl
+four-first Sound Sound (Refused why) d next = refl
+four-first Sound Sound Sound d next = refl
+
+-- where one of four checks refuses, nothing comes after them
+pub four-refused : (a b c d next : Checked) (why : Refusal) → then a (then b (then c d)) ≡ Refused why →
+    then a (then b (then c (then d next))) ≡ Refused why
+four-refused a b c d next why h = four-first a b c d next ∙ then-refused (then a (then b (then c d))) next why h
+
+-- where four checks pass, the next one is made
+pub four-sound : (a b c d next : Checked) → then a (then b (then c d)) ≡ Sound → then a (then b (then c (then d next))) ≡ next
+four-sound a b c d next h = four-first a b c d next ∙ then-sound (then a (then b (then c d))) next h
 
 -- an allowed band passes
 pub band-passes : (band : Band) → allowedBand band ≡ true → checkBand band ≡ Sound
@@ -66,6 +90,15 @@ pub few-links : (count : ℕ) → count ≤ 64 → checkLinkCount count ≡ Soun
 unfolding checkLinkCount
 few-links count h = ap (λ (b : Bool). cond b (Refused (BadLink 64)) Sound) (le-ltb 64 count h)
 
+-- where the count of links passes, there are at most 64
+pub links-counted : (count : ℕ) → checkLinkCount count ≡ Sound → count ≤ 64
+links-counted count h =
+    by-test (ltb 64 count)
+    (λ (t : ltb 64 count ≡ true).
+    let z : Refused (BadLink 64) ≡ Sound = sym (too-many-links count (ltb-true 64 count t)) ∙ h in
+    absurd (let w : _≡_ {A = ℕ} 0 1 = cc in omega arith))
+    (λ (t : ltb 64 count ≡ false). ltb-false 64 count t)
+
 -- a 201st demand is refused
 pub too-many-demands : (count : ℕ) → 200 < count → checkDemandCount count ≡ Refused (TooManyDemands 200)
 unfolding checkDemandCount
@@ -75,6 +108,19 @@ too-many-demands count h = ap (λ (b : Bool). cond b (Refused (TooManyDemands 20
 pub few-demands : (count : ℕ) → count ≤ 200 → checkDemandCount count ≡ Sound
 unfolding checkDemandCount
 few-demands count h = ap (λ (b : Bool). cond b (Refused (TooManyDemands 200)) Sound) (le-ltb 200 count h)
+
+-- an allowed width is 1 to S
+pub width-allowed : (S w : ℕ) → allowedWidth S w ≡ true → (1 ≤ w) × (w ≤ S)
+unfolding allowedWidth
+width-allowed S w h = (leb-true 1 w (first-of-both (leb 1 w) (leb w S) h), leb-true w S (second-of-both (leb 1 w) (leb w S) h))
+
+-- an allowed route length is 1 to 32
+pub hops-allowed : (hops : ℕ) → allowedHops hops ≡ true → (1 ≤ hops) × (hops ≤ 32)
+unfolding allowedHops
+hops-allowed hops h = (
+  leb-true 1 hops (first-of-both (leb 1 hops) (leb hops 32) h),
+  leb-true hops 32 (second-of-both (leb 1 hops) (leb hops 32) h),
+)
 
 -- the links from a position on: the one there, then those behind it
 links-turn : (links : List Link) (k : ℕ) → k < length links →

@@ -7,3 +7,4 @@ pub mod TestLaws
 pub mod Route
 pub mod RouteLaws
 pub mod CheckLaws
+pub mod ViewLaws

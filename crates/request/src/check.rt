@@ -1,7 +1,111 @@
 // The test of a request in memory.
+use crate::Checked;
+use crate::Demand;
+use crate::Link;
 use crate::Request;
+use crate::route::sound_route;
+use grid::Band;
+use refusal::Refusal;
 ghost use mathlib.Core.Path.{_≡_};
-ghost use Rattle.request.specs.Check.{has, allowedWidth, allowedHops};
+ghost use Prim.Native.Nat.{_≤_};
+ghost use lib.ListN.{take};
+ghost use Rattle.request.specs.View.{view, viewDemand};
+ghost use Rattle.request.specs.Check.{then, has, checkBand, checkSomeLink, checkLinks, checkLinkCount, checkDemand, check, allowedWidth, allowedHops};
+
+// Whether a request is sound, or the first fault in the order of its checks: the band, the links one by one, the demands one
+// by one. A place is a listing position, 0 for the band or no link. What stands behind a count is not read.
+pub fn check_request(request: Request) -> Checked
+    ensures { λ r. ⌜ r ≡ check (view request) ⌝ }
+{
+    let band = request.band;
+    let slots = band.slots;
+    let links = request.links;
+    let link_count = request.link_count;
+    let ground = check_ground(band, links, link_count);
+    if let Checked::Refused(why) = ground {
+        return Checked::Refused(why);
+    }
+    let demand_count = request.demand_count;
+    let mut idents = [0u16; 200];
+    let mut k = 0;
+    while k < demand_count {
+        if k == Request::MOST_DEMANDS {
+            return Checked::Refused(Refusal::TooManyDemands(Request::MOST_DEMANDS));
+        }
+        let demand = request.demands[k];
+        let answer = check_demand(demand, k, slots, links, link_count, &idents[..k]);
+        if let Checked::Refused(why) = answer {
+            return Checked::Refused(why);
+        }
+        idents[k] = demand.ident;
+        k += 1;
+    }
+    Checked::Sound
+}
+
+// The band and the links: 4, then 2 where there is no link, then 5 link by link.
+fn check_ground(band: Band, links: [Link; 64], count: usize) -> Checked
+    ensures { λ r. ⌜ r ≡ then (checkBand band) (then (checkSomeLink count) (then (checkLinks 0 (take count links)) (checkLinkCount count))) ⌝ }
+{
+    if band.allowed() {
+        check_links(links, count)
+    } else {
+        Checked::Refused(Refusal::BandOutside(0))
+    }
+}
+
+// The links one by one, each its count before its ends.
+fn check_links(links: [Link; 64], count: usize) -> Checked
+    ensures { λ r. ⌜ r ≡ then (checkSomeLink count) (then (checkLinks 0 (take count links)) (checkLinkCount count)) ⌝ }
+{
+    if count == 0 {
+        return Checked::Refused(Refusal::WrongTag(0));
+    }
+    let mut k = 0;
+    while k < count {
+        if k == Request::MOST_LINKS {
+            return Checked::Refused(Refusal::BadLink(Request::MOST_LINKS));
+        }
+        let link = links[k];
+        if link.from == link.to {
+            return Checked::Refused(Refusal::BadLink(k));
+        }
+        k += 1;
+    }
+    Checked::Sound
+}
+
+// One demand at listing position `k`, over the first `count` links and after demands of these idents: 8, 9, 3, 7.
+fn check_demand(
+    demand: Demand,
+    k: usize,
+    slots: u16,
+    links: [Link; 64],
+    count: usize,
+    earlier: &[u16],
+) -> Checked
+    requires { ⌜ count ≤ 64 ⌝ }
+    ensures { λ r. ⌜ r ≡ checkDemand slots (take count links) (now (earlier .entry)) k (viewDemand demand) ⌝ }
+{
+    let ident = demand.ident;
+    let width = demand.width;
+    let hops = demand.hops;
+    let route = demand.links;
+    if ident_used(earlier, ident) {
+        return Checked::Refused(Refusal::IdentUsed(k));
+    }
+    if !allowed_width(slots, width) {
+        return Checked::Refused(Refusal::BadWidth(k));
+    }
+    if !allowed_hops(hops) {
+        return Checked::Refused(Refusal::WrongLength(k));
+    }
+    if sound_route(&route[..hops], links, count) {
+        Checked::Sound
+    } else {
+        Checked::Refused(Refusal::BadRoute(k))
+    }
+}
 
 // Whether one of the earlier idents is this one.
 pub fn ident_used(earlier: &[u16], ident: u16) -> bool

@@ -5,6 +5,8 @@ use refusal::Refusal;
 mod check;
 mod route;
 
+pub use check::check_request;
+
 // A directed link from one node to another.
 pub struct Link {
     pub from: u8,

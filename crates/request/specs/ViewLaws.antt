@@ -1,0 +1,38 @@
+-- What a request's view shows: the entries before the counts, and nothing else.
+use Prim.Native.Nat.{ℕ, _≤_, _<_, min}
+use mathlib.Core.List.{List, [], map}
+use mathlib.Core.Path.{_≡_, refl, sym, ap, _∙_}
+use lib.ListN.{length, take, getD, length-map, length-take, List·getD-map}
+use lib.Seq.{getD-take}
+use Rattle.request.specs.declared.Link.{Link}
+use Rattle.request.specs.declared.Demand.{Demand}
+use Rattle.request.specs.declared.Request.{Request}
+use Rattle.request.specs.View.{DemandView, viewDemand, view, noLink, noDemand, linkAt, demandAt}
+
+-- a view has as many links as the request says, or as its array holds
+pub links-shown : (r : Request) → length (view r .links) ≡ min (r .«link_count») (length (r .links))
+unfolding view
+links-shown r = length-take (r .«link_count») (r .links)
+
+-- and as many demands
+pub demands-shown : (r : Request) → length (view r .demands) ≡ min (r .«demand_count») (length (r .demands))
+unfolding view
+demands-shown r =
+    length-map (take (r .«demand_count») (r .demands)) viewDemand ∙ length-take (r .«demand_count») (r .demands)
+
+-- the link of a number before the count is the array's
+pub link-shown : (r : Request) (k : ℕ) → k < r .«link_count» → linkAt (view r .links) k ≡ getD (r .links) k (record { from = 0; to = 0 })
+unfolding view linkAt noLink
+link-shown r k h = getD-take (r .«link_count») (r .links) k noLink h
+
+-- the demand at a position before the count is the array's
+pub demand-shown : (r : Request) (k : ℕ) → k < r .«demand_count» →
+    demandAt (view r .demands) k ≡ viewDemand (getD (r .demands) k (record { ident = 0; width = 0; hops = 0; links = [] }))
+unfolding view viewDemand demandAt noDemand
+demand-shown r k h =
+    List·getD-map viewDemand (take (r .«demand_count») (r .demands)) k (record { ident = 0; width = 0; hops = 0; links = [] }) ∙
+    ap viewDemand (getD-take (r .«demand_count») (r .demands) k (record { ident = 0; width = 0; hops = 0; links = [] }) h)
+
+-- a list is as long as any list made of it entry by entry
+pub mapped-length : (X Y : Type 0) (f : X → Y) (l : List X) (n : ℕ) → length (map f l) ≡ n → length l ≡ n
+mapped-length X Y f l n h = sym (length-map l f) ∙ h
