@@ -1,0 +1,125 @@
+//! One line for each call. Lent buffers are filled beforehand and shown whole.
+
+use crate::bound::tested_bound;
+use crate::frames::{call_of, next_frame, Call};
+use crate::frequency::{to_block, to_frequency};
+use crate::placing::first_fit;
+use crate::plan::{check_starts, write_plan};
+use crate::plan_file::read_plan;
+use crate::request::{Refusal, Request};
+use crate::request_file::{read_request, request_bytes, write_request};
+use crate::rules::Rules;
+use crate::sound::test_request;
+use crate::walk::{search, Found, Outcome};
+
+const BYTE: u8 = 0xAA;
+const ENTRY: u16 = 43690;
+
+/// The lines for a stream of frames. A malformed frame ends it.
+pub fn answer_stream(mut stream: &[u8], rules: &Rules) -> Vec<String> {
+    let mut lines = Vec::new();
+    while !stream.is_empty() {
+        match next_frame(&mut stream).and_then(|(op, body)| call_of(op, body)) {
+            Some(call) => lines.push(answer(&call, rules)),
+            None => {
+                lines.push("malformed".to_string());
+                break;
+            }
+        }
+    }
+    lines
+}
+
+pub fn answer(call: &Call, rules: &Rules) -> String {
+    match call {
+        Call::ReadRequest { file } => {
+            said(read_request(file, rules).map(|request| format!("read {}", hex(&request_bytes(&request)))), &[])
+        }
+        Call::Sound { request } => said(test_request(request, rules).map(|()| "sound".to_string()), &[]),
+        Call::WriteRequest { room, request } => {
+            let mut out = vec![BYTE; *room];
+            wrote(write_request(request, &mut out, rules), &out)
+        }
+        Call::Bound { request } => said(tested_bound(request, rules).map(|bound| format!("bound {bound}")), &[]),
+        Call::FirstFit { room, order, request } => {
+            let mut out = vec![ENTRY; *room];
+            let end = first_fit(request, order, &mut out, rules);
+            said(end.map(|end| format!("placed {end}")), &[entries(&out)])
+        }
+        Call::Search { limit, starts_room, order_room, request } => {
+            searched(request, *limit, *starts_room, *order_room, rules)
+        }
+        Call::Check { starts, request } => {
+            said(check_starts(request, starts, rules).map(|end| format!("accepted {end}")), &[])
+        }
+        Call::ReadPlan { room, file, request } => {
+            let mut out = vec![ENTRY; *room];
+            let end = read_plan(request, file, &mut out, rules);
+            said(end.map(|end| format!("read {end}")), &[entries(&out)])
+        }
+        Call::WritePlan { room, starts, request } => {
+            let mut out = vec![BYTE; *room];
+            wrote(write_plan(request, starts, &mut out, rules), &out)
+        }
+        Call::Frequency { band, start, width } => {
+            let centre = to_frequency(band, *start, *width, rules);
+            said(centre.map(|centre| format!("frequency {} {} {}", centre.n, centre.m, centre.mhz)), &[])
+        }
+        Call::Block { band, n, m } => {
+            said(to_block(band, *n, *m, rules).map(|(start, width)| format!("block {start} {width}")), &[])
+        }
+    }
+}
+
+/// The words of an answer or of a refusal, then the lent buffers.
+fn said(answer: Result<String, Refusal>, buffers: &[String]) -> String {
+    let words = answer.unwrap_or_else(|refusal| refused(&refusal));
+    let mut parts = vec![words];
+    parts.extend_from_slice(buffers);
+    parts.join(" ")
+}
+
+pub fn refused(refusal: &Refusal) -> String {
+    format!("refused {} {}", refusal.number, refusal.place)
+}
+
+fn wrote(count: Result<usize, Refusal>, out: &[u8]) -> String {
+    said(count.map(|count| format!("wrote {count}")), &[hex(out)])
+}
+
+fn searched(request: &Request, limit: u64, starts_room: usize, order_room: usize, rules: &Rules) -> String {
+    let mut starts = vec![ENTRY; starts_room];
+    let mut order = vec![ENTRY; order_room];
+    let found = search(request, limit, &mut starts, &mut order, rules);
+    said(found.map(|found| format!("{} {}", outcome(&found), counts(&found))), &[entries(&starts), entries(&order)])
+}
+
+fn outcome(found: &Found) -> &'static str {
+    match found.outcome {
+        Outcome::Finished => "finished",
+        Outcome::NoFit => "nofit",
+        Outcome::Unfinished => "unfinished",
+        Outcome::UnfinishedEmpty => "unfinished-empty",
+    }
+}
+
+pub fn counts(found: &Found) -> String {
+    format!(
+        "end {} bound {} steps {} reached {} ruled {}",
+        found.end, found.bound, found.steps, found.reached, found.ruled
+    )
+}
+
+fn hex(bytes: &[u8]) -> String {
+    if bytes.is_empty() {
+        return "-".to_string();
+    }
+    bytes.iter().map(|byte| format!("{byte:02X}")).collect()
+}
+
+fn entries(numbers: &[u16]) -> String {
+    if numbers.is_empty() {
+        return "-".to_string();
+    }
+    numbers.iter().map(|number| number.to_string()).collect::<Vec<_>>().join(",")
+}

@@ -1,0 +1,47 @@
+//! The bound: over all links, the largest of the widths on the link and the guards between them.
+
+use crate::request::{Refusal, Request};
+use crate::rules::Rules;
+use crate::slips::Slip;
+use crate::sound::test_request;
+
+pub fn tested_bound(request: &Request, rules: &Rules) -> Result<i64, Refusal> {
+    test_request(request, rules)?;
+    Ok(bound(request, rules))
+}
+
+pub fn bound(request: &Request, rules: &Rules) -> i64 {
+    let loads = (0..request.link_count).map(|link| link_load(request, link, rules));
+    let most = match rules.slip {
+        Slip::BoundAddsLinks => loads.sum(),
+        _ => loads.max().unwrap_or(0),
+    };
+    match rules.slip {
+        Slip::BoundWraps => most % 65536,
+        Slip::BoundClipped => most.min(request.band.slots),
+        _ => most,
+    }
+}
+
+/// The sum of widths on the link plus G times (demands on it - 1); 0 for an unused link.
+fn link_load(request: &Request, link: usize, rules: &Rules) -> i64 {
+    let on_it: Vec<_> = request.demands.iter().filter(|demand| holds(&demand.route, link, rules)).collect();
+    let count = on_it.len() as i64;
+    if count == 0 && !rules.slips(Slip::UnusedLinkLessGuard) {
+        return 0;
+    }
+    let widths: i64 = on_it.iter().map(|demand| demand.width).sum();
+    let guards = match rules.slip {
+        Slip::BoundGuardEach => count,
+        Slip::BoundNoGuard => 0,
+        _ => count - 1,
+    };
+    widths + request.band.guard * guards
+}
+
+fn holds(route: &[usize], link: usize, rules: &Rules) -> bool {
+    if rules.slips(Slip::BoundFirstLinkOnly) {
+        return route.first() == Some(&link);
+    }
+    route.contains(&link)
+}

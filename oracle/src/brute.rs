@@ -1,0 +1,61 @@
+//! The best end by brute force over all plans: every start of every demand, clashes told by the stated inequality.
+
+use crate::request::Request;
+
+/// More plans than this are not tried out.
+const PLANS_MOST: u64 = 2_000_000;
+
+/// How many starts there are for all demands together, if not too many.
+pub fn plans_to_try(request: &Request) -> Option<u64> {
+    let mut plans: u64 = 1;
+    for demand in &request.demands {
+        plans *= (request.band.slots - demand.width + 1) as u64;
+        if plans > PLANS_MOST {
+            return None;
+        }
+    }
+    Some(plans)
+}
+
+/// The lowest end of all allowed plans, `None` when there is no allowed plan.
+pub fn best_end(request: &Request) -> Option<i64> {
+    let mut best = None;
+    try_starts(request, &mut Vec::new(), &mut best);
+    best
+}
+
+fn try_starts(request: &Request, starts: &mut Vec<i64>, best: &mut Option<i64>) {
+    let position = starts.len();
+    if position == request.demands.len() {
+        let end = end_of(request, starts);
+        *best = Some(best.map_or(end, |lowest| lowest.min(end)));
+        return;
+    }
+    for start in 0..=request.band.slots - request.demands[position].width {
+        starts.push(start);
+        if !clashes_with_earlier(request, starts, position) {
+            try_starts(request, starts, best);
+        }
+        starts.pop();
+    }
+}
+
+fn end_of(request: &Request, starts: &[i64]) -> i64 {
+    let end = |position: usize| starts[position] + request.demands[position].width;
+    (0..starts.len()).map(end).max().unwrap_or(0)
+}
+
+fn clashes_with_earlier(request: &Request, starts: &[i64], position: usize) -> bool {
+    (0..position).any(|other| share(request, other, position) && !apart(request, starts, other, position))
+}
+
+fn share(request: &Request, one: usize, other: usize) -> bool {
+    request.demands[one].route.iter().any(|link| request.demands[other].route.contains(link))
+}
+
+/// One of the two has end + G at most the other's start.
+fn apart(request: &Request, starts: &[i64], one: usize, other: usize) -> bool {
+    let end = |position: usize| starts[position] + request.demands[position].width;
+    let guard = request.band.guard;
+    end(one) + guard <= starts[other] || end(other) + guard <= starts[one]
+}

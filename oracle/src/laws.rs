@@ -1,0 +1,131 @@
+//! What the rules promise about answers, held on the answers themselves.
+
+use crate::answers::answer;
+use crate::frames::Call;
+use crate::frequency::{to_block, to_frequency};
+use crate::placing::first_fit;
+use crate::plan::{check_starts, plan_bytes};
+use crate::plan_file::read_plan;
+use crate::request::{Band, Request};
+use crate::request_file::{read_request, request_bytes};
+use crate::rules::Rules;
+use crate::walk::{factorial, search, Found, Outcome};
+
+/// Holds the laws on every call and prints the counts; false when one is broken.
+pub fn check(calls: &[Call]) -> bool {
+    let rules = Rules::right();
+    let mut held = 0;
+    let mut broken = 0;
+    for (index, call) in calls.iter().enumerate() {
+        match law(call, &rules) {
+            Some(true) => held += 1,
+            Some(false) => {
+                broken += 1;
+                println!("frame {}: {} breaks a law", index + 1, answer(call, &rules));
+            }
+            None => {}
+        }
+    }
+    println!("laws: {held} answers hold them, {broken} break them");
+    broken == 0 && held > 0
+}
+
+/// Whether the call's answer keeps its law; `None` for a refusal or a call without one.
+fn law(call: &Call, rules: &Rules) -> Option<bool> {
+    match call {
+        Call::ReadRequest { file } => one_encoding(file, rules),
+        Call::FirstFit { order, request, .. } => placed_is_allowed(request, order, rules),
+        Call::Search { limit, request, .. } => search_law(request, *limit, rules),
+        Call::Check { starts, request } => first_fit_suffices(request, starts, rules),
+        Call::WritePlan { starts, request, .. } => written_is_read(request, starts, rules),
+        Call::Frequency { band, start, width } => there_and_back(band, *start, *width, rules),
+        Call::Block { band, n, m } => back_and_there(band, *n, *m, rules),
+        _ => None,
+    }
+}
+
+/// What was read, written again, is the same bytes.
+fn one_encoding(file: &[u8], rules: &Rules) -> Option<bool> {
+    let request = read_request(file, rules).ok()?;
+    Some(request_bytes(&request) == file)
+}
+
+fn placed_is_allowed(request: &Request, order: &[usize], rules: &Rules) -> Option<bool> {
+    let mut out = vec![0; request.demand_count];
+    let end = first_fit(request, order, &mut out, rules).ok()?;
+    Some(check_starts(request, &numbers(&out), rules) == Ok(end))
+}
+
+fn numbers(entries: &[u16]) -> Vec<i64> {
+    entries.iter().map(|&entry| entry as i64).collect()
+}
+
+/// First fit in the order of an allowed plan's starts is not refused, and no demand ends higher than in the plan.
+fn first_fit_suffices(request: &Request, starts: &[i64], rules: &Rules) -> Option<bool> {
+    check_starts(request, starts, rules).ok()?;
+    let mut order: Vec<usize> = (0..request.demand_count).collect();
+    order.sort_by_key(|&position| (starts[position], position));
+    let mut out = vec![0; request.demand_count];
+    let placed = first_fit(request, &order, &mut out, rules).is_ok();
+    Some(placed && numbers(&out).iter().zip(starts).all(|(found, given)| found <= given))
+}
+
+fn written_is_read(request: &Request, starts: &[i64], rules: &Rules) -> Option<bool> {
+    let end = check_starts(request, starts, rules).ok()?;
+    let mut out = vec![0; request.demand_count];
+    let read = read_plan(request, &plan_bytes(request, starts, rules), &mut out, rules);
+    Some(read == Ok(end) && numbers(&out)[..] == starts[..request.demand_count])
+}
+
+fn there_and_back(band: &Band, start: i64, width: i64, rules: &Rules) -> Option<bool> {
+    let centre = to_frequency(band, start, width, rules).ok()?;
+    Some(to_block(band, centre.n, centre.m, rules) == Ok((start, width)))
+}
+
+fn back_and_there(band: &Band, n: i64, m: i64, rules: &Rules) -> Option<bool> {
+    let (start, width) = to_block(band, n, m, rules).ok()?;
+    let centre = to_frequency(band, start, width, rules).ok()?;
+    Some((centre.n, centre.m) == (n, m))
+}
+
+fn search_law(request: &Request, limit: u64, rules: &Rules) -> Option<bool> {
+    let mut buffer = [[0; 20]; 2];
+    let [starts, order] = &mut buffer;
+    let found = search(request, limit, starts, order, rules).ok()?;
+    let order: Vec<usize> = order[..request.demand_count].iter().map(|&entry| entry as usize).collect();
+    let starts = numbers(&starts[..request.demand_count]);
+    Some(sums_hold(request, &found, &order) && plan_holds(request, &found, &order, &starts, rules))
+}
+
+/// The whole tree, or nothing fits: K!. A finish at the bound: the rank of the order. Unfinished: below K!.
+fn sums_hold(request: &Request, found: &Found, order: &[usize]) -> bool {
+    let sum = found.reached + found.ruled;
+    let all = factorial(request.demand_count);
+    match found.outcome {
+        Outcome::Finished if found.end == found.bound => sum == rank(order),
+        Outcome::Finished | Outcome::NoFit => sum == all,
+        Outcome::Unfinished | Outcome::UnfinishedEmpty => sum < all,
+    }
+}
+
+/// The rank, counted from 1, of an order among all orders in listing order.
+fn rank(order: &[usize]) -> u128 {
+    let before = |index: usize| {
+        let lower = (0..order[index]).filter(|entry| !order[..index].contains(entry)).count() as u128;
+        lower * factorial(order.len() - index - 1)
+    };
+    1 + (0..order.len()).map(before).sum::<u128>()
+}
+
+/// The plan is the first fit of its order and ends between the bound and S.
+fn plan_holds(request: &Request, found: &Found, order: &[usize], starts: &[i64], rules: &Rules) -> bool {
+    if matches!(found.outcome, Outcome::NoFit | Outcome::UnfinishedEmpty) {
+        return found.end == 0;
+    }
+    let mut out = vec![0; request.demand_count];
+    let placed = first_fit(request, order, &mut out, rules);
+    placed == Ok(found.end)
+        && numbers(&out) == starts
+        && check_starts(request, starts, rules) == Ok(found.end)
+        && (found.bound..=request.band.slots).contains(&found.end)
+}

@@ -1,0 +1,85 @@
+//! A list of calls in the making, and the usual arguments a call gets beside its request.
+
+use crate::frames::Call;
+use crate::request::{Band, Request};
+use crate::request_file::request_bytes;
+
+#[derive(Default)]
+pub struct Cases {
+    pub calls: Vec<Call>,
+}
+
+impl Cases {
+    pub fn read(&mut self, file: &[u8]) {
+        self.calls.push(Call::ReadRequest { file: file.to_vec() });
+    }
+
+    pub fn sound(&mut self, request: &Request) {
+        self.calls.push(Call::Sound { request: request.clone() });
+    }
+
+    pub fn write(&mut self, room: usize, request: &Request) {
+        self.calls.push(Call::WriteRequest { room, request: request.clone() });
+    }
+
+    pub fn bound(&mut self, request: &Request) {
+        self.calls.push(Call::Bound { request: request.clone() });
+    }
+
+    pub fn place(&mut self, room: usize, order: &[usize], request: &Request) {
+        self.calls.push(Call::FirstFit { room, order: order.to_vec(), request: request.clone() });
+    }
+
+    pub fn search(&mut self, limit: u64, rooms: (usize, usize), request: &Request) {
+        let request = request.clone();
+        self.calls.push(Call::Search { limit, starts_room: rooms.0, order_room: rooms.1, request });
+    }
+
+    pub fn check(&mut self, starts: &[i64], request: &Request) {
+        self.calls.push(Call::Check { starts: starts.to_vec(), request: request.clone() });
+    }
+
+    pub fn read_plan(&mut self, room: usize, file: &[u8], request: &Request) {
+        self.calls.push(Call::ReadPlan { room, file: file.to_vec(), request: request.clone() });
+    }
+
+    pub fn write_plan(&mut self, room: usize, starts: &[i64], request: &Request) {
+        self.calls.push(Call::WritePlan { room, starts: starts.to_vec(), request: request.clone() });
+    }
+
+    pub fn frequency(&mut self, band: &Band, start: i64, width: i64) {
+        self.calls.push(Call::Frequency { band: band.clone(), start, width });
+    }
+
+    pub fn block(&mut self, band: &Band, n: i64, m: i64) {
+        self.calls.push(Call::Block { band: band.clone(), n, m });
+    }
+
+    /// Every call that takes a request, with arguments that would do for a sound one.
+    pub fn every_call(&mut self, request: &Request) {
+        let count = request.demand_count.min(200);
+        let order: Vec<usize> = (0..count).collect();
+        self.sound(request);
+        self.bound(request);
+        self.write(request_bytes(request).len() + 2, request);
+        self.place(count + 1, &order, request);
+        self.search(10, (count, count + 1), request);
+        self.check(&vec![0; count], request);
+        self.read_plan(count, &[], request);
+        self.write_plan(7 * count + 1, &vec![0; count], request);
+    }
+
+    /// Every call with the request and also a fault of its own, so that the request's fault comes first.
+    pub fn every_call_faulty(&mut self, request: &Request) {
+        let count = request.demand_count.min(200);
+        self.write(3, request);
+        self.place(0, &[7; 2], request);
+        self.place(0, &(0..count).collect::<Vec<_>>(), request);
+        self.search(0, (0, 0), request);
+        self.check(&[], request);
+        self.check(&vec![65535; count], request);
+        self.read_plan(0, &[4; 3], request);
+        self.write_plan(0, &[], request);
+        self.write_plan(0, &vec![0; count], request);
+    }
+}

@@ -1,0 +1,300 @@
+//! Cases by chance from a seed: requests, sound and damaged, and calls with them.
+
+use super::cases::Cases;
+use super::damage::{damage_file, damage_request, damage_starts};
+use super::dice::Dice;
+use crate::bound::bound;
+use crate::brute::plans_to_try;
+use crate::fields::put_field;
+use crate::placing::first_fit;
+use crate::plan::row_body;
+use crate::request::{Band, Demand, Request};
+use crate::request_file::request_bytes;
+use crate::rules::Rules;
+use crate::walk::search;
+
+pub fn random_cases(seed: u64, count: usize) -> Cases {
+    let mut dice = Dice::new(seed);
+    let mut cases = Cases::default();
+    while cases.calls.len() < count {
+        random_call(&mut cases, &mut dice);
+    }
+    cases
+}
+
+/// Searches of small requests with a limit that lets most of them finish.
+pub fn small_searches(seed: u64, count: usize) -> Cases {
+    let mut dice = Dice::new(seed);
+    let mut cases = Cases::default();
+    while cases.calls.len() < count {
+        let request = small_request(&mut dice);
+        let soon = request.demand_count + dice.below(12);
+        let limit = dice.pick(&[soon as u64, 10_000, 10_000, 10_000]);
+        cases.search(limit, (request.demand_count, request.demand_count), &request);
+    }
+    cases
+}
+
+fn random_call(cases: &mut Cases, dice: &mut Dice) {
+    let request = random_request(dice);
+    match dice.below(16) {
+        0 | 1 => random_file(cases, dice, &request),
+        2 => cases.sound(&request),
+        3 => {
+            let room = random_room(dice, request_bytes(&request).len());
+            cases.write(room, &request);
+        }
+        4 => cases.bound(&request),
+        5 | 6 => random_order(cases, dice, &request),
+        7..=9 => random_search(cases, dice, &request),
+        10 => {
+            let starts = random_starts(dice, &request);
+            cases.check(&starts, &request);
+        }
+        11 | 12 => random_plan_file(cases, dice, &request),
+        13 => {
+            let starts = random_starts(dice, &request);
+            let room = random_room(dice, 7 * request.demands.len());
+            cases.write_plan(room, &starts, &request);
+        }
+        14 => random_frequency(cases, dice),
+        _ => random_block(cases, dice),
+    }
+}
+
+/// Mostly sound, mostly small.
+fn random_request(dice: &mut Dice) -> Request {
+    let mut request = match dice.below(24) {
+        0..=13 => small_request(dice),
+        14..=21 => middling_request(dice),
+        22 => request_of(dice, (1, 384), (1, 12), (19, 22)),
+        _ if dice.one_in(8) => large_request(dice),
+        _ => request_of(dice, (1, 40), (1, 64), (0, 4)),
+    };
+    if dice.one_in(4) {
+        damage_request(&mut request, dice);
+    }
+    request
+}
+
+/// A request whose plans can all be tried out; mostly one whose band is about as long as its bound.
+pub fn small_request(dice: &mut Dice) -> Request {
+    if dice.one_in(4) {
+        return request_of(dice, (1, 8), (1, 5), (0, 6));
+    }
+    let mut tries = dice.below(60);
+    loop {
+        let request = tight_request(dice);
+        tries = tries.saturating_sub(1);
+        if plans_to_try(&request).is_some() && (tries == 0 || whole_tree(&request)) {
+            return request;
+        }
+    }
+}
+
+/// Whether the walk goes through the whole tree.
+fn whole_tree(request: &Request) -> bool {
+    let mut buffer = [[0; 20]; 2];
+    let [starts, order] = &mut buffer;
+    let found = search(request, 10_000, starts, order, &Rules::right());
+    found.is_ok_and(|found| found.steps > 0 && found.end != found.bound)
+}
+
+/// Routes of up to three links round a ring, and a band from one slot less than the bound to three more.
+fn tight_request(dice: &mut Dice) -> Request {
+    let nodes = dice.between(3, 5) as usize;
+    let guard = dice.pick(&[0, 0, 0, 1, 2]);
+    let mut request = Request::new(Band::new(dice.between(-400, 400), 1, guard), super::shapes::ring(nodes), vec![]);
+    for at in 0..dice.between(3, 6) {
+        let first = dice.below(nodes);
+        let hops = dice.pick(&[1, 2, 2, 2, 3]);
+        let route: Vec<usize> = (first..first + hops).map(|link| link % nodes).collect();
+        request.demands.push(Demand::new(100 * at + dice.between(0, 99), dice.between(1, 3), &route));
+    }
+    request.demand_count = request.demands.len();
+    let widest = request.demands.iter().map(|demand| demand.width).max().unwrap_or(1);
+    request.band.slots = widest.max(bound(&request, &Rules::right()) + dice.between(-1, 3));
+    request
+}
+
+fn middling_request(dice: &mut Dice) -> Request {
+    request_of(dice, (1, 384), (1, 12), (0, 8))
+}
+
+/// Many demands, now and then all as wide as the band.
+fn large_request(dice: &mut Dice) -> Request {
+    let mut request = request_of(dice, (1, 384), (1, 64), (198, 200));
+    if dice.one_in(2) {
+        request.band.slots = dice.between(370, 384);
+        request.demands.iter_mut().for_each(|demand| demand.width = request.band.slots);
+    }
+    request
+}
+
+/// A sound request; each pair gives the least and the most of slots, links and demands.
+fn request_of(dice: &mut Dice, slots: (i64, i64), links: (i64, i64), demands: (i64, i64)) -> Request {
+    let guards = [0, 0, 0, 1, 1, 2, 3, 8];
+    let band = Band::new(dice.between(-400, 400), dice.between(slots.0, slots.1), dice.pick(&guards));
+    let links = random_links(dice, links);
+    let count = dice.between(demands.0, demands.1);
+    let mut request = Request::new(band, links, vec![]);
+    for _ in 0..count {
+        let demand = random_demand(dice, &request);
+        request.demands.push(demand);
+    }
+    request.demand_count = request.demands.len();
+    request
+}
+
+/// Links between few nodes; every other time the first of them run round.
+fn random_links(dice: &mut Dice, (least, most): (i64, i64)) -> Vec<(u8, u8)> {
+    let nodes = dice.between(2, 5);
+    let mut links: Vec<(u8, u8)> = if dice.one_in(2) { super::shapes::ring(nodes as usize) } else { vec![] };
+    for _ in 0..most {
+        links.push(random_link(dice, nodes));
+    }
+    links.truncate(dice.between(least, most) as usize);
+    links
+}
+
+fn random_link(dice: &mut Dice, nodes: i64) -> (u8, u8) {
+    let from = dice.between(0, nodes - 1);
+    let to = (from + dice.between(1, nodes - 1)) % nodes;
+    (from as u8, to as u8)
+}
+
+fn random_demand(dice: &mut Dice, request: &Request) -> Demand {
+    let ident = loop {
+        let ident = if dice.one_in(10) { dice.pick(&[0, 1, 255, 256, 65535]) } else { dice.between(0, 65535) };
+        if request.demands.iter().all(|demand| demand.ident != ident) {
+            break ident;
+        }
+    };
+    let slots = request.band.slots;
+    let most = dice.pick(&[1, 2, 2, 2, 3, 4]).min(slots);
+    let most = if dice.one_in(20) { slots } else { most };
+    Demand::new(ident, dice.between(1, most), &random_route(dice, &request.links))
+}
+
+fn random_route(dice: &mut Dice, links: &[(u8, u8)]) -> Vec<usize> {
+    let mut route = vec![dice.below(links.len())];
+    let most = if dice.one_in(20) { 32 } else { 3 };
+    for _ in 1..dice.between(1, most) {
+        let node = links[route[route.len() - 1]].1;
+        let next: Vec<usize> =
+            (0..links.len()).filter(|link| links[*link].0 == node && !route.contains(link)).collect();
+        if next.is_empty() {
+            break;
+        }
+        route.push(dice.pick(&next));
+    }
+    route
+}
+
+/// What is needed, a little more or less, or nothing.
+fn random_room(dice: &mut Dice, need: usize) -> usize {
+    match dice.below(8) {
+        0 => 0,
+        1 => need.saturating_sub(1),
+        2 => need + 1,
+        3 => need + dice.below(10),
+        4 => dice.below(need + 1),
+        _ => need,
+    }
+}
+
+fn random_file(cases: &mut Cases, dice: &mut Dice, request: &Request) {
+    let mut file = request_bytes(request);
+    while dice.one_in(2) {
+        damage_file(&mut file, dice);
+    }
+    cases.read(&file);
+}
+
+fn random_permutation(dice: &mut Dice, count: usize) -> Vec<usize> {
+    let mut order: Vec<usize> = (0..count).collect();
+    dice.shuffle(&mut order);
+    order
+}
+
+fn random_order(cases: &mut Cases, dice: &mut Dice, request: &Request) {
+    let mut order = random_permutation(dice, request.demands.len());
+    match dice.below(12) {
+        0 => order.push(dice.below(3)),
+        1 => drop(order.pop()),
+        2 | 3 if !order.is_empty() => {
+            let at = dice.below(order.len());
+            order[at] = if dice.one_in(2) { dice.below(order.len()) } else { order.len() + dice.below(3) };
+        }
+        _ => {}
+    }
+    let room = random_room(dice, request.demands.len());
+    cases.place(room, &order, request);
+}
+
+fn random_search(cases: &mut Cases, dice: &mut Dice, request: &Request) {
+    let count = request.demands.len();
+    let few = dice.below(10) as u64;
+    let soon = (count + dice.below(40)) as u64;
+    let limit = dice.pick(&[few, soon, soon, 300, 2_000, 2_000]);
+    let rooms = if dice.one_in(6) { (random_room(dice, count), random_room(dice, count)) } else { (count, count) };
+    cases.search(limit, rooms, request);
+}
+
+/// Starts that fit where first fit finds some, now and then damaged.
+fn random_starts(dice: &mut Dice, request: &Request) -> Vec<i64> {
+    let order = random_permutation(dice, request.demands.len());
+    let mut found = vec![0; request.demands.len()];
+    let placed = first_fit(request, &order, &mut found, &Rules::right());
+    let mut starts: Vec<i64> = found.into_iter().map(|start| start as i64).collect();
+    if placed.is_err() {
+        starts = starts.iter().map(|_| dice.between(0, request.band.slots)).collect();
+    }
+    while dice.one_in(2) {
+        damage_starts(&mut starts, request.band.slots, dice);
+    }
+    starts
+}
+
+fn random_plan_file(cases: &mut Cases, dice: &mut Dice, request: &Request) {
+    let starts = random_starts(dice, request);
+    let mut rows: Vec<(i64, i64)> = request.demands.iter().map(|demand| demand.ident).zip(starts).collect();
+    if dice.one_in(2) {
+        dice.shuffle(&mut rows);
+    }
+    let mut file = Vec::new();
+    for (ident, start) in rows {
+        put_field(&mut file, 4, &row_body(ident, start));
+    }
+    while dice.one_in(3) {
+        damage_file(&mut file, dice);
+    }
+    let room = random_room(dice, request.demands.len());
+    cases.read_plan(room, &file, request);
+}
+
+fn random_band(dice: &mut Dice) -> Band {
+    let n0 = if dice.one_in(12) { dice.pick(&[-401, 401, -400, 400]) } else { dice.between(-400, 400) };
+    let slots = if dice.one_in(12) { dice.pick(&[0, 1, 384, 385]) } else { dice.between(1, 384) };
+    let guard = if dice.one_in(12) { dice.pick(&[8, 9, 255]) } else { dice.between(0, 8) };
+    Band::new(n0, slots, guard)
+}
+
+fn random_frequency(cases: &mut Cases, dice: &mut Dice) {
+    let band = random_band(dice);
+    let width = dice.between(0, band.slots.min(20) + 1);
+    let start = if dice.one_in(10) { dice.between(65520, 65535) } else { dice.between(0, band.slots) };
+    cases.frequency(&band, start, width);
+}
+
+fn random_block(cases: &mut Cases, dice: &mut Dice) {
+    let band = random_band(dice);
+    let m = dice.between(0, band.slots.min(20) + 1);
+    let n = match dice.below(10) {
+        0 => dice.between(i32::MIN as i64, i32::MAX as i64),
+        3 => band.n0 + m + dice.pick(&[-65536, 65536]),
+        1 | 2 => band.n0 + m + dice.between(-3, 3),
+        _ => band.n0 + m + dice.between(-2, 2 * band.slots),
+    };
+    cases.block(&band, n, m);
+}

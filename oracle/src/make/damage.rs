@@ -1,0 +1,149 @@
+//! Damage by chance to requests, files and starts. A damaged request still fits a frame.
+
+use super::dice::Dice;
+use super::shapes::{with_demand_count, with_hops, with_link_count};
+use crate::fields::whole_fields;
+use crate::request::Request;
+
+/// One fault or more.
+pub fn damage_request(request: &mut Request, dice: &mut Dice) {
+    match dice.below(6) {
+        0 => damage_band(request, dice),
+        1 => damage_links(request, dice),
+        2 if dice.one_in(6) => *request = with_demand_count(request.clone(), dice.pick(&[201, 65535])),
+        _ => damage_demand(request, dice),
+    }
+    if dice.one_in(3) {
+        damage_request(request, dice);
+    }
+}
+
+fn damage_band(request: &mut Request, dice: &mut Dice) {
+    let band = &mut request.band;
+    match dice.below(3) {
+        0 => band.n0 = dice.pick(&[-32768, -401, 401, 32767]),
+        1 => band.slots = dice.pick(&[0, 385, 65535]),
+        _ => band.guard = dice.pick(&[9, 255]),
+    }
+}
+
+fn damage_links(request: &mut Request, dice: &mut Dice) {
+    if dice.one_in(3) {
+        *request = with_link_count(request.clone(), dice.pick(&[0, 1, 65, 65535]));
+    } else if !request.links.is_empty() {
+        let at = dice.below(request.links.len());
+        let node = dice.below(4) as u8;
+        request.links[at] = if dice.one_in(2) { (node, node) } else { (node, node + 1) };
+    }
+}
+
+/// One fault in a demand, now and then two in the same.
+fn damage_demand(request: &mut Request, dice: &mut Dice) {
+    if request.demands.is_empty() {
+        return;
+    }
+    let at = dice.below(request.demands.len());
+    damage_one(request, at, dice);
+    while dice.one_in(3) {
+        damage_one(request, at, dice);
+    }
+}
+
+fn damage_one(request: &mut Request, at: usize, dice: &mut Dice) {
+    let other = dice.below(request.demands.len());
+    let slots = request.band.slots;
+    match dice.below(6) {
+        0 => request.demands[at].ident = request.demands[other].ident,
+        1 => request.demands[at].width = dice.pick(&[0, slots, slots + 1, 65535]).min(65535),
+        2 => *request = with_hops(request.clone(), at, dice.pick(&[0, 33, 255])),
+        3 => damage_route(request, at, dice),
+        4 => {
+            let first = request.demands[at].route.first().copied();
+            lengthen_route(request, at, first.unwrap_or(0));
+        }
+        _ => lengthen_route(request, at, dice.below(8)),
+    }
+}
+
+fn damage_route(request: &mut Request, at: usize, dice: &mut Dice) {
+    let links = request.link_count.min(200);
+    let route = &mut request.demands[at].route;
+    if !route.is_empty() {
+        let hop = dice.below(route.len());
+        route[hop] = dice.pick(&[0, 1, 2, links.saturating_sub(1), links, 255]);
+    }
+}
+
+fn lengthen_route(request: &mut Request, at: usize, link: usize) {
+    let demand = &mut request.demands[at];
+    if demand.hops == demand.route.len() && demand.hops < 32 {
+        demand.route.push(link);
+        demand.hops += 1;
+    }
+}
+
+pub fn damage_file(file: &mut Vec<u8>, dice: &mut Dice) {
+    match dice.below(9) {
+        0 => file.truncate(dice.below(file.len() + 1)),
+        1 => file.push(dice.pick(&[0, 1, 2, 3, 4, 255])),
+        2 | 3 if !file.is_empty() => {
+            let at = dice.below(file.len());
+            file[at] ^= 1 << dice.below(8);
+        }
+        4 if !file.is_empty() => {
+            let at = dice.below(file.len());
+            file[at] = dice.below(256) as u8;
+        }
+        5 => damage_header(file, dice),
+        6 if dice.one_in(8) => file.resize(dice.pick(&[1400, 1401, 8128, 8129]), 0),
+        _ => move_field(file, dice),
+    }
+}
+
+/// Another tag, or another length, at a field's front.
+fn damage_header(file: &mut [u8], dice: &mut Dice) {
+    let offsets: Vec<usize> = whole_fields(file).iter().map(|field| field.offset).collect();
+    if offsets.is_empty() {
+        return;
+    }
+    let offset = dice.pick(&offsets);
+    if dice.one_in(2) {
+        file[offset] = dice.below(6) as u8;
+    } else {
+        let length = file[offset + 2];
+        file[offset + 2] = dice.pick(&[length.wrapping_add(1), length.wrapping_sub(1), 4, 5, 2]);
+    }
+}
+
+/// A field left out, repeated, or moved to another place.
+fn move_field(file: &mut Vec<u8>, dice: &mut Dice) {
+    let mut fields: Vec<Vec<u8>> =
+        whole_fields(file).iter().map(|field| file[field.offset..field.offset + 3 + field.length].to_vec()).collect();
+    if fields.is_empty() {
+        return;
+    }
+    let at = dice.below(fields.len());
+    let to = dice.below(fields.len());
+    match dice.below(3) {
+        0 => drop(fields.remove(at)),
+        1 => fields.insert(to, fields[at].clone()),
+        _ => fields.swap(at, to),
+    }
+    *file = fields.concat();
+}
+
+pub fn damage_starts(starts: &mut Vec<i64>, slots: i64, dice: &mut Dice) {
+    match dice.below(6) {
+        0 => drop(starts.pop()),
+        1 => starts.push(dice.pick(&[0, 1, 65535])),
+        2..=4 if !starts.is_empty() => {
+            let at = dice.below(starts.len());
+            starts[at] = if dice.one_in(8) { dice.pick(&[slots, 65535]) } else { dice.between(0, slots) };
+        }
+        _ if !starts.is_empty() => {
+            let at = dice.below(starts.len());
+            starts[at] = (starts[at] + dice.between(-1, 1)).max(0);
+        }
+        _ => {}
+    }
+}

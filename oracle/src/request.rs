@@ -1,0 +1,60 @@
+//! A request as it stands in memory, sound or not, and what a refusal carries.
+
+#[derive(Clone, Debug, PartialEq)]
+pub struct Band {
+    pub n0: i64,
+    pub slots: i64,
+    pub guard: i64,
+}
+
+/// `hops` is the stated route length. `route` holds the link numbers that are really there: 32 at most in a frame.
+#[derive(Clone, Debug, PartialEq)]
+pub struct Demand {
+    pub ident: i64,
+    pub width: i64,
+    pub hops: usize,
+    pub route: Vec<usize>,
+}
+
+/// The counts are stated apart from the lists, since a count may exceed what its array holds.
+#[derive(Clone, Debug, PartialEq)]
+pub struct Request {
+    pub band: Band,
+    pub link_count: usize,
+    pub links: Vec<(u8, u8)>,
+    pub demand_count: usize,
+    pub demands: Vec<Demand>,
+}
+
+#[derive(Clone, Copy, Debug, PartialEq)]
+pub struct Refusal {
+    pub number: u8,
+    pub place: usize,
+}
+
+pub fn refuse<T>(number: u8, place: usize) -> Result<T, Refusal> {
+    Err(Refusal { number, place })
+}
+
+impl Band {
+    pub fn new(n0: i64, slots: i64, guard: i64) -> Band {
+        Band { n0, slots, guard }
+    }
+}
+
+impl Demand {
+    pub fn new(ident: i64, width: i64, route: &[usize]) -> Demand {
+        Demand { ident, width, hops: route.len(), route: route.to_vec() }
+    }
+}
+
+impl Request {
+    pub fn new(band: Band, links: Vec<(u8, u8)>, demands: Vec<Demand>) -> Request {
+        Request { band, link_count: links.len(), links, demand_count: demands.len(), demands }
+    }
+
+    /// A demand's width; 0 where no demand stands.
+    pub fn width(&self, position: usize) -> i64 {
+        self.demands.get(position).map_or(0, |demand| demand.width)
+    }
+}

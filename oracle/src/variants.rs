@@ -1,0 +1,162 @@
+//! Wrong variants of the rules, and the first case that tells each from the right ones.
+
+use crate::answers::answer;
+use crate::frames::Call;
+use crate::rules::{Checks, Limits, Rules, EARLY_END, FIELDS, REQUEST};
+use crate::slips::SLIPS;
+
+pub struct Variant {
+    pub name: String,
+    pub rules: Rules,
+}
+
+/// All variants. Their numbers are their positions, counted from 1.
+pub fn all() -> Vec<Variant> {
+    let mut variants = slipped();
+    variants.extend(reordered());
+    variants.extend(moved());
+    variants.extend(shifted());
+    variants
+}
+
+fn slipped() -> Vec<Variant> {
+    let variant = |&(slip, name): &(_, &str)| {
+        let mut rules = Rules::right();
+        rules.slip = slip;
+        Variant { name: name.to_string(), rules }
+    };
+    SLIPS.iter().map(variant).collect()
+}
+
+type List = fn(&mut Checks) -> &mut Vec<u8>;
+
+const LISTS: [(&str, List); 16] = [
+    ("request file", |checks| &mut checks.request_file),
+    ("band field", |checks| &mut checks.band_field),
+    ("link field", |checks| &mut checks.link_field),
+    ("demand field", |checks| &mut checks.demand_field),
+    ("unknown field", |checks| &mut checks.other_field),
+    ("request in memory", |checks| &mut checks.memory),
+    ("demand in memory", |checks| &mut checks.memory_demand),
+    ("request writer", |checks| &mut checks.request_writer),
+    ("first fit", |checks| &mut checks.first_fit),
+    ("search", |checks| &mut checks.search),
+    ("check of starts", |checks| &mut checks.starts),
+    ("plan file", |checks| &mut checks.plan_file),
+    ("plan row", |checks| &mut checks.plan_row),
+    ("plan writer", |checks| &mut checks.plan_writer),
+    ("block to frequency", |checks| &mut checks.frequency),
+    ("frequency to block", |checks| &mut checks.block),
+];
+
+/// Neighbours that no call can have at once: a missing link and a link at fault; a 201st demand in memory, of which
+/// nothing is read; a row's ident unknown and already seen.
+const NEVER_AT_ONCE: [(&str, u8, u8); 3] =
+    [("request in memory", 2, 5), ("demand in memory", 6, 8), ("plan row", 14, 15)];
+
+/// Every two neighbouring checks swapped.
+fn reordered() -> Vec<Variant> {
+    let mut variants = Vec::new();
+    for (place, list) in LISTS {
+        let length = list(&mut Rules::right().checks).len();
+        for at in 1..length {
+            let mut rules = Rules::right();
+            let checks = list(&mut rules.checks);
+            let (first, second) = (checks[at - 1], checks[at]);
+            checks.swap(at - 1, at);
+            if !NEVER_AT_ONCE.contains(&(place, first, second)) {
+                variants.push(Variant { name: format!("{place}: {} before {}", told(second), told(first)), rules });
+            }
+        }
+    }
+    variants
+}
+
+fn told(check: u8) -> String {
+    match check {
+        REQUEST => "the request's tests".to_string(),
+        FIELDS => "the fields".to_string(),
+        EARLY_END => "the early end".to_string(),
+        number => number.to_string(),
+    }
+}
+
+/// A check moved further than to its neighbour's place.
+fn moved() -> Vec<Variant> {
+    let orders: [(&str, List, &[u8]); 4] = [
+        ("request in memory: no link after the demands", |checks| &mut checks.memory, &[4, 5, 6, 2]),
+        ("request in memory: the demands before the links", |checks| &mut checks.memory, &[4, 6, 2, 5]),
+        ("demand in memory: 3 first, as in files", |checks| &mut checks.memory_demand, &[3, 6, 8, 9, 7]),
+        ("demand field: 3 after 9, as in memory", |checks| &mut checks.demand_field, &[1, 2, 6, 8, 9, 3, 7]),
+    ];
+    let variant = |(name, list, order): (&str, List, &[u8])| {
+        let mut rules = Rules::right();
+        *list(&mut rules.checks) = order.to_vec();
+        Variant { name: name.to_string(), rules }
+    };
+    orders.into_iter().map(variant).collect()
+}
+
+type Shift = fn(&mut Limits);
+
+/// Limits one too low or one too high.
+fn shifted() -> Vec<Variant> {
+    let shifts: [(&str, Shift); 26] = [
+        ("n0 from -401", |limits| limits.n0_least -= 1),
+        ("n0 from -399", |limits| limits.n0_least += 1),
+        ("n0 to 399", |limits| limits.n0_most -= 1),
+        ("n0 to 401", |limits| limits.n0_most += 1),
+        ("S from 0", |limits| limits.slots_least -= 1),
+        ("S from 2", |limits| limits.slots_least += 1),
+        ("S to 383", |limits| limits.slots_most -= 1),
+        ("S to 385", |limits| limits.slots_most += 1),
+        ("G to 7", |limits| limits.guard_most -= 1),
+        ("G to 9", |limits| limits.guard_most += 1),
+        ("63 links at most", |limits| limits.links_most -= 1),
+        ("65 links at most", |limits| limits.links_most += 1),
+        ("199 demands at most", |limits| limits.demands_most -= 1),
+        ("201 demands at most", |limits| limits.demands_most += 1),
+        ("routes from 0 hops", |limits| limits.hops_least -= 1),
+        ("routes from 2 hops", |limits| limits.hops_least += 1),
+        ("routes to 31 hops", |limits| limits.hops_most -= 1),
+        ("routes to 33 hops", |limits| limits.hops_most += 1),
+        ("widths from 0", |limits| limits.width_least -= 1),
+        ("widths from 2", |limits| limits.width_least += 1),
+        ("19 demands at most for the search", |limits| limits.search_most -= 1),
+        ("21 demands at most for the search", |limits| limits.search_most += 1),
+        ("request files to 8,127 bytes", |limits| limits.request_bytes -= 1),
+        ("request files to 8,129 bytes", |limits| limits.request_bytes += 1),
+        ("plan files to 1,399 bytes", |limits| limits.plan_bytes -= 1),
+        ("plan files to 1,401 bytes", |limits| limits.plan_bytes += 1),
+    ];
+    let variant = |(name, shift): (&str, Shift)| {
+        let mut rules = Rules::right();
+        shift(&mut rules.limits);
+        Variant { name: name.to_string(), rules }
+    };
+    shifts.into_iter().map(variant).collect()
+}
+
+/// The number, counted from 1, of the first call that the variant answers otherwise.
+fn told_apart(variant: &Variant, calls: &[Call], right: &[String]) -> Option<usize> {
+    let differs = |(call, line): (&Call, &String)| answer(call, &variant.rules) != *line;
+    calls.iter().zip(right).position(differs).map(|index| index + 1)
+}
+
+/// Prints a line for each variant; false when one is not told apart.
+pub fn show(calls: &[Call]) -> bool {
+    let right: Vec<String> = calls.iter().map(|call| answer(call, &Rules::right())).collect();
+    let variants = all();
+    let mut caught = 0;
+    for (index, variant) in variants.iter().enumerate() {
+        match told_apart(variant, calls, &right) {
+            Some(frame) => {
+                caught += 1;
+                println!("variant {} told apart by frame {}: {}", index + 1, frame, variant.name);
+            }
+            None => println!("variant {} NOT TOLD APART: {}", index + 1, variant.name),
+        }
+    }
+    println!("{} variants, {} told apart by {} frames", variants.len(), caught, calls.len());
+    caught == variants.len()
+}
