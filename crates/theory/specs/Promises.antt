@@ -2,7 +2,7 @@
 use Prim.Native.Nat.{ℕ, _+_, _≤_, _<_}
 use mathlib.Core.Bool.{Bool, true, false}
 use mathlib.Core.List.{List, _∷_, _++_, List·Memᴰ}
-use mathlib.Core.Logic.{_⊎_}
+use mathlib.Core.Logic.{_≢_}
 use mathlib.Core.Path.{_≡_}
 use lib.ListN.{length}
 use Rattle.theory.specs.Problem.{Problem, Row, fill, top, Allowed, planEnd, startIn}
@@ -33,8 +33,8 @@ pub record Shown (P : Problem) (S : ℕ) (rows : List Row) (todo : List ℕ) (a 
   pub allowed : Allowed P S rows todo (startIn (fill P rows order))
   pub plan-ends : planEnd P rows todo (startIn (fill P rows order)) ≡ e
 
--- finished at e: no allowed plan ends lower, and the order shown is the first that ends there; all n! orders are counted, or those up to
--- the order shown if it meets the bound
+-- finished at e: no allowed plan ends lower, and the order shown is the first that ends there; at the bound the count is the rank of that
+-- order, from 1, and above the bound all n! orders are counted
 pub record Finished (P : Problem) (S bound : ℕ) (rows : List Row) (todo : List ℕ) (a : Answer) (e : ℕ) : Type 0 where
   pub order : List ℕ
   pub earlier : List (List ℕ)
@@ -43,7 +43,8 @@ pub record Finished (P : Problem) (S bound : ℕ) (rows : List Row) (todo : List
   pub shown : Shown P S rows todo a order e
   pub none-lower : NoneBelow P S rows todo e
   pub first : (o : List ℕ) → List·Memᴰ o earlier → e < endsAt P rows o
-  pub sum : (a .reached + a .ruled ≡ factorial (length todo)) ⊎ ((e ≡ bound) × (a .reached + a .ruled ≡ length earlier + 1))
+  pub sum-at-bound : e ≡ bound → a .reached + a .ruled ≡ length earlier + 1
+  pub sum-above-bound : e ≢ bound → a .reached + a .ruled ≡ factorial (length todo)
 
 -- nothing fits: there is no allowed plan, and all n! orders are counted
 pub record NothingFits (P : Problem) (S : ℕ) (rows : List Row) (todo : List ℕ) (a : Answer) : Type 0 where
@@ -59,14 +60,14 @@ pub record Stopped (limit : ℕ) (todo : List ℕ) (a : Answer) (taken-in : List
   pub sum : a .reached + a .ruled ≡ length taken-in
   pub sum-below : a .reached + a .ruled < factorial (length todo)
 
--- unfinished at e: the plan shown is that of the first of the lowest among the orders taken in, and ends between the bound and S
+-- unfinished at e: the plan shown is that of the first of the lowest among the orders taken in, and ends above the bound and within S
 pub record Unfinished (P : Problem) (S bound limit : ℕ) (rows : List Row) (todo : List ℕ) (a : Answer) (e : ℕ) : Type 0 where
   pub order : List ℕ
   pub taken-in : List (List ℕ)
   pub stopped : Stopped limit todo a taken-in
   pub shown : Shown P S rows todo a order e
   pub lowest-first : FirstLowest P rows (S + 1) taken-in order
-  pub above-bound : bound ≤ e
+  pub above-bound : bound < e
 
 -- unfinished without a plan: none of the orders taken in ends within S
 pub record UnfinishedEmpty (P : Problem) (S limit : ℕ) (rows : List Row) (todo : List ℕ) (a : Answer) : Type 0 where

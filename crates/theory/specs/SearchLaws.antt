@@ -19,7 +19,7 @@ use Rattle.theory.specs.Walk.{Best, none-met, met, Course, going, at-bou
 use Rattle.theory.specs.Search.{finished, nothing-fits, unfinished, unfinished-empty, Answer, fresh, outcomeOf, conclude, too-narrow, at-once, searchWalk, search}
 use Rattle.theory.specs.Tried.{Lead, leadOf, endsAt, leadBy, try, FirstLowest, Leads, unbeaten, taken, EndsAtBound, Walked}
 use Rattle.theory.specs.TriedLaws.{below-or-not, try-append, try-better, try-leads, leads-mark, leads-least}
-use Rattle.theory.specs.WalkLaws.{going-not-out, at-bound-not-out, walk-walked, walked-leads}
+use Rattle.theory.specs.WalkLaws.{going-not-at-bound, going-not-out, at-bound-not-out, walk-walked, walked-leads}
 use Rattle.theory.specs.LimitLaws.{walk-same}
 use Rattle.theory.specs.Promises.{NoneBelow, Grounds, Shown, Finished, NothingFits, Stopped, Unfinished, UnfinishedEmpty, Promise, settled}
 
@@ -98,252 +98,268 @@ module _ (P : Problem) (S bound limit : ℕ) (rows : List Row) (todo : List ℕ)
   unfolding conclude
   outcome-is u c b m ec eb em = cc
 
-  -- a walk that goes on has taken in all orders
-  all-taken-in : (u : Tally) (w : Walked P limit bound rows [] (orders todo) (fresh (S + 1)) u) → u .course ≡ going →
-      orders todo ≡ w .eaten
-  all-taken-in u w on =
-      w .split ∙ ap (λ (r : List (List ℕ)). w .eaten ++ r) (w .when-going on) ∙ append-nil (w .eaten)
+  module _ (within-band : bound ≤ S) where
+    -- a walk that ended without meeting the bound has another mark
+    unmet-at-end : (u : Tally) (w : Walked P limit bound rows [] (orders todo) (fresh (S + 1)) u) → (u .course ≡ at-bound → ⊥) →
+        u .mark ≢ bound
+    unfolding fresh
+    unmet-at-end u w unmet = w .bound-unmet unmet (omega arith)
 
-  -- a walk through all orders without one that ends within S: nothing fits
-  all-without : (u : Tally) (w : Walked P limit bound rows [] (orders todo) (fresh (S + 1)) u) → u .course ≡ going →
-      ((o : List ℕ) → List·Memᴰ o (w .eaten) → S + 1 ≤ endsAt P rows o) → u .best ≡ none-met →
-      NothingFits P S rows todo (conclude bound u)
-  unfolding conclude fresh NoneBelow
-  all-without u w on each none =
-      let whole : orders todo ≡ w .eaten = all-taken-in u w on in
-      let beyond : NoneBelow P S rows todo (S + 1)
-      = none-below (S + 1) (λ (o : List ℕ) m. each o (subst (List·Memᴰ o) whole m)) in
-      record {
-        best-is = none;
-        none-allowed = λ plan a. omega (arith, beyond plan a, plan-within plan a);
-        sum = omega (arith, w .counted, ap length whole, orders-length todo);
-      }
+    -- a walk that goes on has taken in all orders
+    all-taken-in : (u : Tally) (w : Walked P limit bound rows [] (orders todo) (fresh (S + 1)) u) → u .course ≡ going →
+        orders todo ≡ w .eaten
+    all-taken-in u w on =
+        w .split ∙ ap (λ (r : List (List ℕ)). w .eaten ++ r) (w .when-going on) ∙ append-nil (w .eaten)
 
-  -- a walk through all orders with one that ends within S: finished with the first of the lowest
-  all-with : (u : Tally) (w : Walked P limit bound rows [] (orders todo) (fresh (S + 1)) u) → u .course ≡ going →
-      (o : List ℕ) → FirstLowest P rows (S + 1) (w .eaten) o → leadOf u ≡ leadBy P rows [] o →
-      Finished P S bound rows todo (conclude bound u) (endsAt P rows o)
-  unfolding conclude fresh leadOf leadBy
-  all-with u w on o lowest leads =
-      let whole : orders todo ≡ w .eaten = all-taken-in u w on in
-      let listed : orders todo ≡ lowest .earlier ++ (o ∷ lowest .later) = whole ∙ lowest .stands in
-      let mark-is : u .mark ≡ endsAt P rows o = ap (λ (l : Lead). l .mark) leads in
-      let least : (x : List ℕ) → List·Memᴰ x (w .eaten) → u .mark ≤ endsAt P rows x
-      = leads-least P rows [] (w .eaten) (leadOf (fresh (S + 1))) (leadOf u)
-      (walked-leads P limit bound rows [] (orders todo) (fresh (S + 1)) u w) in
-      record {
-        order = o;
-        earlier = lowest .earlier;
-        later = lowest .later;
-        listed = listed;
-        shown =
-            shown-by
-            (conclude bound u)
-            o
-            (mem-stands (orders todo) (lowest .earlier) o (lowest .later) listed)
-            (ap (λ (l : Lead). l .best) leads)
-            (omega (arith, lowest .below-mark));
-        none-lower =
-            none-below
-            (endsAt P rows o)
-            (λ (x : List ℕ) m. omega (arith, mark-is, least x (subst (List·Memᴰ x) whole m)));
-        first = lowest .earlier-higher;
-        sum = inl (omega (arith, w .counted, ap length whole, orders-length todo));
-      }
+    -- a walk through all orders without one that ends within S: nothing fits
+    all-without : (u : Tally) (w : Walked P limit bound rows [] (orders todo) (fresh (S + 1)) u) → u .course ≡ going →
+        ((o : List ℕ) → List·Memᴰ o (w .eaten) → S + 1 ≤ endsAt P rows o) → u .best ≡ none-met →
+        NothingFits P S rows todo (conclude bound u)
+    unfolding conclude fresh NoneBelow
+    all-without u w on each none =
+        let whole : orders todo ≡ w .eaten = all-taken-in u w on in
+        let beyond : NoneBelow P S rows todo (S + 1)
+        = none-below (S + 1) (λ (o : List ℕ) m. each o (subst (List·Memᴰ o) whole m)) in
+        record {
+          best-is = none;
+          none-allowed = λ plan a. omega (arith, beyond plan a, plan-within plan a);
+          sum = omega (arith, w .counted, ap length whole, orders-length todo);
+        }
 
-  -- a walk that met the bound has the order that meets it in the lead
-  bound-leads : (u : Tally) (w : Walked P limit bound rows [] (orders todo) (fresh (S + 1)) u)
-      (b : EndsAtBound P bound rows [] (w .eaten) (leadOf (fresh (S + 1)))) → leadOf u ≡ leadBy P rows [] (b .order)
-  unfolding try
-  bound-leads u w b =
-      let start : Lead = leadOf (fresh (S + 1)) in
-      w .led
-      ∙ ap (λ (tried : List (List ℕ)). try P rows [] tried start) (b .stands)
-      ∙ try-append P rows [] (b .earlier) (b .order ∷ []) start
-      ∙ try-better P rows [] (b .order) [] (try P rows [] (b .earlier) start) (omega (arith, b .meets, b .beaten))
+    -- a walk through all orders with one that ends within S: finished with the first of the lowest
+    all-with : (u : Tally) (w : Walked P limit bound rows [] (orders todo) (fresh (S + 1)) u) → u .course ≡ going →
+        (o : List ℕ) → FirstLowest P rows (S + 1) (w .eaten) o → leadOf u ≡ leadBy P rows [] o →
+        Finished P S bound rows todo (conclude bound u) (endsAt P rows o)
+    unfolding conclude fresh leadOf leadBy
+    all-with u w on o lowest leads =
+        let whole : orders todo ≡ w .eaten = all-taken-in u w on in
+        let listed : orders todo ≡ lowest .earlier ++ (o ∷ lowest .later) = whole ∙ lowest .stands in
+        let mark-is : u .mark ≡ endsAt P rows o = ap (λ (l : Lead). l .mark) leads in
+        let least : (x : List ℕ) → List·Memᴰ x (w .eaten) → u .mark ≤ endsAt P rows x
+        = leads-least P rows [] (w .eaten) (leadOf (fresh (S + 1))) (leadOf u)
+        (walked-leads P limit bound rows [] (orders todo) (fresh (S + 1)) u w) in
+        record {
+          order = o;
+          earlier = lowest .earlier;
+          later = lowest .later;
+          listed = listed;
+          shown =
+              shown-by
+              (conclude bound u)
+              o
+              (mem-stands (orders todo) (lowest .earlier) o (lowest .later) listed)
+              (ap (λ (l : Lead). l .best) leads)
+              (omega (arith, lowest .below-mark));
+          none-lower =
+              none-below
+              (endsAt P rows o)
+              (λ (x : List ℕ) m. omega (arith, mark-is, least x (subst (List·Memᴰ x) whole m)));
+          first = lowest .earlier-higher;
+          sum-at-bound = λ q. absurd (unmet-at-end u w (λ e. going-not-at-bound (sym on ∙ e)) (mark-is ∙ q));
+          sum-above-bound = λ q. omega (arith, w .counted, ap length whole, orders-length todo);
+        }
 
-  -- a walk that met the bound: finished with the first order that meets it
-  bound-with : (u : Tally) (w : Walked P limit bound rows [] (orders todo) (fresh (S + 1)) u)
-      (b : EndsAtBound P bound rows [] (w .eaten) (leadOf (fresh (S + 1)))) →
-      Finished P S bound rows todo (conclude bound u) (endsAt P rows (b .order))
-  unfolding conclude fresh leadOf leadBy NoneBelow
-  bound-with u w b =
-      let start : Lead = leadOf (fresh (S + 1)) in
-      let o : List ℕ = b .order in
-      let listed : orders todo ≡ b .earlier ++ (o ∷ w .remaining)
-      = w .split ∙ ap (λ (l : List (List ℕ)). l ++ w .remaining) (b .stands) ∙ append-assoc (b .earlier) (o ∷ []) (w .remaining) in
-      let before : Leads P rows [] (b .earlier) start (try P rows [] (b .earlier) start) = try-leads P rows [] (b .earlier) start in
-      let fallen = leads-mark P rows [] (b .earlier) start (try P rows [] (b .earlier) start) before in
-      let least = leads-least P rows [] (b .earlier) start (try P rows [] (b .earlier) start) before in
-      record {
-        order = o;
-        earlier = b .earlier;
-        later = w .remaining;
-        listed = listed;
-        shown =
-            shown-by
-            (conclude bound u)
-            o
-            (mem-stands (orders todo) (b .earlier) o (w .remaining) listed)
-            (ap (λ (l : Lead). l .best) (bound-leads u w b))
-            (omega (arith, b .meets, b .beaten, fallen));
-        none-lower = λ plan a. omega (arith, b .meets, grounds .bounded plan a);
-        first = λ (x : List ℕ) m. omega (arith, b .meets, b .beaten, least x m);
-        sum = inr (b .meets, omega (arith, w .counted, ap length (b .stands), length-append (b .earlier) (o ∷ [])));
-      }
+    -- a walk that met the bound has the order that meets it in the lead
+    bound-leads : (u : Tally) (w : Walked P limit bound rows [] (orders todo) (fresh (S + 1)) u)
+        (b : EndsAtBound P bound rows [] (w .eaten) (leadOf (fresh (S + 1)))) → leadOf u ≡ leadBy P rows [] (b .order)
+    unfolding try
+    bound-leads u w b =
+        let start : Lead = leadOf (fresh (S + 1)) in
+        w .led
+        ∙ ap (λ (tried : List (List ℕ)). try P rows [] tried start) (b .stands)
+        ∙ try-append P rows [] (b .earlier) (b .order ∷ []) start
+        ∙ try-better P rows [] (b .order) [] (try P rows [] (b .earlier) start) (omega (arith, b .meets, b .beaten))
 
-  -- a walk that ran out of steps
-  out-stopped : (u : Tally) (w : Walked P limit bound rows [] (orders todo) (fresh (S + 1)) u) → u .course ≡ out-of-steps →
-      Stopped limit todo (conclude bound u) (w .eaten)
-  unfolding conclude fresh
-  out-stopped u w out =
-      record {
-        remaining = w .remaining;
-        split = w .split;
-        steps-are = omega (arith, w .steps-held, w .when-out out .1);
-        sum = omega (arith, w .counted);
-        sum-below =
-            omega (
-              arith,
-              w .counted,
-              length-some (w .remaining) (w .when-out out .0),
-              ap length (w .split),
-              length-append (w .eaten) (w .remaining),
-              orders-length todo,
-            );
-      }
+    -- a walk that met the bound: finished with the first order that meets it
+    bound-with : (u : Tally) (w : Walked P limit bound rows [] (orders todo) (fresh (S + 1)) u)
+        (b : EndsAtBound P bound rows [] (w .eaten) (leadOf (fresh (S + 1)))) →
+        Finished P S bound rows todo (conclude bound u) (endsAt P rows (b .order))
+    unfolding conclude fresh leadOf leadBy NoneBelow
+    bound-with u w b =
+        let start : Lead = leadOf (fresh (S + 1)) in
+        let o : List ℕ = b .order in
+        let listed : orders todo ≡ b .earlier ++ (o ∷ w .remaining)
+        = w .split ∙ ap (λ (l : List (List ℕ)). l ++ w .remaining) (b .stands) ∙ append-assoc (b .earlier) (o ∷ []) (w .remaining) in
+        let before : Leads P rows [] (b .earlier) start (try P rows [] (b .earlier) start) = try-leads P rows [] (b .earlier) start in
+        let fallen = leads-mark P rows [] (b .earlier) start (try P rows [] (b .earlier) start) before in
+        let least = leads-least P rows [] (b .earlier) start (try P rows [] (b .earlier) start) before in
+        record {
+          order = o;
+          earlier = b .earlier;
+          later = w .remaining;
+          listed = listed;
+          shown =
+              shown-by
+              (conclude bound u)
+              o
+              (mem-stands (orders todo) (b .earlier) o (w .remaining) listed)
+              (ap (λ (l : Lead). l .best) (bound-leads u w b))
+              (omega (arith, b .meets, b .beaten, fallen));
+          none-lower = λ plan a. omega (arith, b .meets, grounds .bounded plan a);
+          first = λ (x : List ℕ) m. omega (arith, b .meets, b .beaten, least x m);
+          sum-at-bound = λ q. omega (arith, w .counted, ap length (b .stands), length-append (b .earlier) (o ∷ []));
+          sum-above-bound = λ q. absurd (q (b .meets));
+        }
 
-  -- a walk that ran out of steps before it met an order that ends within S
-  out-without : (u : Tally) (w : Walked P limit bound rows [] (orders todo) (fresh (S + 1)) u) → u .course ≡ out-of-steps →
-      ((o : List ℕ) → List·Memᴰ o (w .eaten) → S + 1 ≤ endsAt P rows o) → u .best ≡ none-met →
-      UnfinishedEmpty P S limit rows todo (conclude bound u)
-  unfolding conclude
-  out-without u w out each none =
-      record {
-        taken-in = w .eaten;
-        stopped = out-stopped u w out;
-        best-is = none;
-        none-within = λ (o : List ℕ) m. omega (arith, each o m);
-      }
+    -- a walk that ran out of steps
+    out-stopped : (u : Tally) (w : Walked P limit bound rows [] (orders todo) (fresh (S + 1)) u) → u .course ≡ out-of-steps →
+        Stopped limit todo (conclude bound u) (w .eaten)
+    unfolding conclude fresh
+    out-stopped u w out =
+        record {
+          remaining = w .remaining;
+          split = w .split;
+          steps-are = omega (arith, w .steps-held, w .when-out out .1);
+          sum = omega (arith, w .counted);
+          sum-below =
+              omega (
+                arith,
+                w .counted,
+                length-some (w .remaining) (w .when-out out .0),
+                ap length (w .split),
+                length-append (w .eaten) (w .remaining),
+                orders-length todo,
+              );
+        }
 
-  -- a walk that ran out of steps after it met one
-  out-with : (u : Tally) (w : Walked P limit bound rows [] (orders todo) (fresh (S + 1)) u) → u .course ≡ out-of-steps →
-      (o : List ℕ) → FirstLowest P rows (S + 1) (w .eaten) o → leadOf u ≡ leadBy P rows [] o →
-      Unfinished P S bound limit rows todo (conclude bound u) (endsAt P rows o)
-  unfolding conclude leadOf leadBy NoneBelow
-  out-with u w out o lowest leads =
-      let listed : orders todo ≡ lowest .earlier ++ (o ∷ (lowest .later ++ w .remaining))
-      = w .split
-      ∙ ap (λ (l : List (List ℕ)). l ++ w .remaining) (lowest .stands)
-      ∙ append-assoc (lowest .earlier) (o ∷ lowest .later) (w .remaining) in
-      let shown : Shown P S rows todo (conclude bound u) o (endsAt P rows o)
-      = shown-by
-      (conclude bound u)
-      o
-      (mem-stands (orders todo) (lowest .earlier) o (lowest .later ++ w .remaining) listed)
-      (ap (λ (l : Lead). l .best) leads)
-      (omega (arith, lowest .below-mark)) in
-      record {
-        order = o;
-        taken-in = w .eaten;
-        stopped = out-stopped u w out;
-        shown = shown;
-        lowest-first = lowest;
-        above-bound = omega (arith, shown .plan-ends, grounds .bounded (startIn (fill P rows o)) (shown .allowed));
-      }
+    -- a walk that ran out of steps before it met an order that ends within S
+    out-without : (u : Tally) (w : Walked P limit bound rows [] (orders todo) (fresh (S + 1)) u) → u .course ≡ out-of-steps →
+        ((o : List ℕ) → List·Memᴰ o (w .eaten) → S + 1 ≤ endsAt P rows o) → u .best ≡ none-met →
+        UnfinishedEmpty P S limit rows todo (conclude bound u)
+    unfolding conclude
+    out-without u w out each none =
+        record {
+          taken-in = w .eaten;
+          stopped = out-stopped u w out;
+          best-is = none;
+          none-within = λ (o : List ℕ) m. omega (arith, each o m);
+        }
 
-  -- what a walk's end promises where the lead stayed at its start: there is no plan
-  promise-without : (u : Tally) (w : Walked P limit bound rows [] (orders todo) (fresh (S + 1)) u) →
-      ((o : List ℕ) → List·Memᴰ o (w .eaten) → S + 1 ≤ endsAt P rows o) → leadOf u ≡ leadOf (fresh (S + 1)) →
-      (u .course ≡ going) ⊎ (u .course ≡ out-of-steps) →
-      Promise P S bound limit rows todo (conclude bound u) (conclude bound u .outcome)
-  unfolding Promise fresh leadOf outcomeOf
-  promise-without u w each same (inl on) =
-      let none : u .best ≡ none-met = ap (λ (l : Lead). l .best) same in
-      subst
-      (Promise P S bound limit rows todo (conclude bound u))
-      (sym (outcome-is u going none-met (u .mark) on none refl))
-      (all-without u w on each none)
-  promise-without u w each same (inr out) =
-      let none : u .best ≡ none-met = ap (λ (l : Lead). l .best) same in
-      subst
-      (Promise P S bound limit rows todo (conclude bound u))
-      (sym (outcome-is u out-of-steps none-met (u .mark) out none refl))
-      (out-without u w out each none)
+    -- a walk that ran out of steps after it met one
+    out-with : (u : Tally) (w : Walked P limit bound rows [] (orders todo) (fresh (S + 1)) u) → u .course ≡ out-of-steps →
+        (o : List ℕ) → FirstLowest P rows (S + 1) (w .eaten) o → leadOf u ≡ leadBy P rows [] o →
+        Unfinished P S bound limit rows todo (conclude bound u) (endsAt P rows o)
+    unfolding conclude leadOf leadBy NoneBelow
+    out-with u w out o lowest leads =
+        let listed : orders todo ≡ lowest .earlier ++ (o ∷ (lowest .later ++ w .remaining))
+        = w .split
+        ∙ ap (λ (l : List (List ℕ)). l ++ w .remaining) (lowest .stands)
+        ∙ append-assoc (lowest .earlier) (o ∷ lowest .later) (w .remaining) in
+        let shown : Shown P S rows todo (conclude bound u) o (endsAt P rows o)
+        = shown-by
+        (conclude bound u)
+        o
+        (mem-stands (orders todo) (lowest .earlier) o (lowest .later ++ w .remaining) listed)
+        (ap (λ (l : Lead). l .best) leads)
+        (omega (arith, lowest .below-mark)) in
+        record {
+          order = o;
+          taken-in = w .eaten;
+          stopped = out-stopped u w out;
+          shown = shown;
+          lowest-first = lowest;
+          above-bound =
+              omega (
+                arith,
+                shown .plan-ends,
+                grounds .bounded (startIn (fill P rows o)) (shown .allowed),
+                unmet-at-end u w (λ e. at-bound-not-out (sym e ∙ out)),
+                ap (λ (l : Lead). l .mark) leads,
+              );
+        }
 
-  -- what a walk's end promises where an order has the lead
-  promise-with : (u : Tally) (w : Walked P limit bound rows [] (orders todo) (fresh (S + 1)) u) → (o : List ℕ) →
-      FirstLowest P rows (S + 1) (w .eaten) o → leadOf u ≡ leadBy P rows [] o → (u .course ≡ going) ⊎ (u .course ≡ out-of-steps) →
-      Promise P S bound limit rows todo (conclude bound u) (conclude bound u .outcome)
-  unfolding Promise leadOf leadBy outcomeOf
-  promise-with u w o lowest leads (inl on) =
-      subst
-      (Promise P S bound limit rows todo (conclude bound u))
-      (sym
-      (outcome-is
-      u
-      going
-      (met (fill P rows o) o)
-      (endsAt P rows o)
-      on
-      (ap (λ (l : Lead). l .best) leads)
-      (ap (λ (l : Lead). l .mark) leads)))
-      (all-with u w on o lowest leads)
-  promise-with u w o lowest leads (inr out) =
-      subst
-      (Promise P S bound limit rows todo (conclude bound u))
-      (sym
-      (outcome-is
-      u
-      out-of-steps
-      (met (fill P rows o) o)
-      (endsAt P rows o)
-      out
-      (ap (λ (l : Lead). l .best) leads)
-      (ap (λ (l : Lead). l .mark) leads)))
-      (out-with u w out o lowest leads)
+    -- what a walk's end promises where the lead stayed at its start: there is no plan
+    promise-without : (u : Tally) (w : Walked P limit bound rows [] (orders todo) (fresh (S + 1)) u) →
+        ((o : List ℕ) → List·Memᴰ o (w .eaten) → S + 1 ≤ endsAt P rows o) → leadOf u ≡ leadOf (fresh (S + 1)) →
+        (u .course ≡ going) ⊎ (u .course ≡ out-of-steps) →
+        Promise P S bound limit rows todo (conclude bound u) (conclude bound u .outcome)
+    unfolding Promise fresh leadOf outcomeOf
+    promise-without u w each same (inl on) =
+        let none : u .best ≡ none-met = ap (λ (l : Lead). l .best) same in
+        subst
+        (Promise P S bound limit rows todo (conclude bound u))
+        (sym (outcome-is u going none-met (u .mark) on none refl))
+        (all-without u w on each none)
+    promise-without u w each same (inr out) =
+        let none : u .best ≡ none-met = ap (λ (l : Lead). l .best) same in
+        subst
+        (Promise P S bound limit rows todo (conclude bound u))
+        (sym (outcome-is u out-of-steps none-met (u .mark) out none refl))
+        (out-without u w out each none)
 
-  -- what a walk's end promises where it did not meet the bound
-  promise-unmet : (u : Tally) (w : Walked P limit bound rows [] (orders todo) (fresh (S + 1)) u) →
-      Leads P rows [] (w .eaten) (leadOf (fresh (S + 1))) (leadOf u) → (u .course ≡ going) ⊎ (u .course ≡ out-of-steps) →
-      Promise P S bound limit rows todo (conclude bound u) (conclude bound u .outcome)
-  unfolding fresh leadOf
-  promise-unmet u w (unbeaten each same) course-is = promise-without u w each same course-is
-  promise-unmet u w (taken o lowest leads) course-is = promise-with u w o lowest leads course-is
+    -- what a walk's end promises where an order has the lead
+    promise-with : (u : Tally) (w : Walked P limit bound rows [] (orders todo) (fresh (S + 1)) u) → (o : List ℕ) →
+        FirstLowest P rows (S + 1) (w .eaten) o → leadOf u ≡ leadBy P rows [] o → (u .course ≡ going) ⊎ (u .course ≡ out-of-steps) →
+        Promise P S bound limit rows todo (conclude bound u) (conclude bound u .outcome)
+    unfolding Promise leadOf leadBy outcomeOf
+    promise-with u w o lowest leads (inl on) =
+        subst
+        (Promise P S bound limit rows todo (conclude bound u))
+        (sym
+        (outcome-is
+        u
+        going
+        (met (fill P rows o) o)
+        (endsAt P rows o)
+        on
+        (ap (λ (l : Lead). l .best) leads)
+        (ap (λ (l : Lead). l .mark) leads)))
+        (all-with u w on o lowest leads)
+    promise-with u w o lowest leads (inr out) =
+        subst
+        (Promise P S bound limit rows todo (conclude bound u))
+        (sym
+        (outcome-is
+        u
+        out-of-steps
+        (met (fill P rows o) o)
+        (endsAt P rows o)
+        out
+        (ap (λ (l : Lead). l .best) leads)
+        (ap (λ (l : Lead). l .mark) leads)))
+        (out-with u w out o lowest leads)
 
-  -- what a walk's end promises where it met the bound
-  promise-met : (u : Tally) (w : Walked P limit bound rows [] (orders todo) (fresh (S + 1)) u) → u .course ≡ at-bound →
-      Promise P S bound limit rows todo (conclude bound u) (conclude bound u .outcome)
-  unfolding Promise leadOf leadBy outcomeOf
-  promise-met u w met-it =
-      let b = w .when-at-bound met-it in
-      let leads : leadOf u ≡ leadBy P rows [] (b .order) = bound-leads u w b in
-      subst
-      (Promise P S bound limit rows todo (conclude bound u))
-      (sym
-      (outcome-is
-      u
-      at-bound
-      (met (fill P rows (b .order)) (b .order))
-      (endsAt P rows (b .order))
-      met-it
-      (ap (λ (l : Lead). l .best) leads)
-      (ap (λ (l : Lead). l .mark) leads)))
-      (bound-with u w b)
+    -- what a walk's end promises where it did not meet the bound
+    promise-unmet : (u : Tally) (w : Walked P limit bound rows [] (orders todo) (fresh (S + 1)) u) →
+        Leads P rows [] (w .eaten) (leadOf (fresh (S + 1))) (leadOf u) → (u .course ≡ going) ⊎ (u .course ≡ out-of-steps) →
+        Promise P S bound limit rows todo (conclude bound u) (conclude bound u .outcome)
+    unfolding fresh leadOf
+    promise-unmet u w (unbeaten each same) course-is = promise-without u w each same course-is
+    promise-unmet u w (taken o lowest leads) course-is = promise-with u w o lowest leads course-is
 
-  -- what a walk's end promises
-  walk-promise : (u : Tally) (w : Walked P limit bound rows [] (orders todo) (fresh (S + 1)) u) →
-      Promise P S bound limit rows todo (conclude bound u) (conclude bound u .outcome)
-  walk-promise u w =
-      let leads = walked-leads P limit bound rows [] (orders todo) (fresh (S + 1)) u w in
-      ⊎-elim
-      (λ (on : u .course ≡ going). promise-unmet u w leads (inl on))
-      (λ (ended : (u .course ≡ at-bound) ⊎ (u .course ≡ out-of-steps)).
-      ⊎-elim
-      (λ (met-it : u .course ≡ at-bound). promise-met u w met-it)
-      (λ (out : u .course ≡ out-of-steps). promise-unmet u w leads (inr out))
-      ended)
-      (course-cases (u .course))
+    -- what a walk's end promises where it met the bound
+    promise-met : (u : Tally) (w : Walked P limit bound rows [] (orders todo) (fresh (S + 1)) u) → u .course ≡ at-bound →
+        Promise P S bound limit rows todo (conclude bound u) (conclude bound u .outcome)
+    unfolding Promise leadOf leadBy outcomeOf
+    promise-met u w met-it =
+        let b = w .when-at-bound met-it in
+        let leads : leadOf u ≡ leadBy P rows [] (b .order) = bound-leads u w b in
+        subst
+        (Promise P S bound limit rows todo (conclude bound u))
+        (sym
+        (outcome-is
+        u
+        at-bound
+        (met (fill P rows (b .order)) (b .order))
+        (endsAt P rows (b .order))
+        met-it
+        (ap (λ (l : Lead). l .best) leads)
+        (ap (λ (l : Lead). l .mark) leads)))
+        (bound-with u w b)
+
+    -- what a walk's end promises
+    walk-promise : (u : Tally) (w : Walked P limit bound rows [] (orders todo) (fresh (S + 1)) u) →
+        Promise P S bound limit rows todo (conclude bound u) (conclude bound u .outcome)
+    walk-promise u w =
+        let leads = walked-leads P limit bound rows [] (orders todo) (fresh (S + 1)) u w in
+        ⊎-elim
+        (λ (on : u .course ≡ going). promise-unmet u w leads (inl on))
+        (λ (ended : (u .course ≡ at-bound) ⊎ (u .course ≡ out-of-steps)).
+        ⊎-elim
+        (λ (met-it : u .course ≡ at-bound). promise-met u w met-it)
+        (λ (out : u .course ≡ out-of-steps). promise-unmet u w leads (inr out))
+        ended)
+        (course-cases (u .course))
 
 -- with nothing to place the rows that stand are the plan
 none-promise : (P : Problem) (S bound : ℕ) (rows : List Row) → Grounds P S bound rows [] →
@@ -370,15 +386,16 @@ none-promise P S bound rows grounds =
           };
       none-lower = λ plan a. omega (arith, planEnd-nil P rows plan);
       first = λ (o : List ℕ) m. absurd (List·Memᴰ·not-nil m);
-      sum = inl refl;
+      sum-at-bound = λ q. refl;
+      sum-above-bound = λ q. refl;
     }
 
 -- the walk's answer keeps its promise
-searchWalk-promise : (P : Problem) (S bound limit : ℕ) (rows : List Row) (todo : List ℕ) → Grounds P S bound rows todo →
+searchWalk-promise : (P : Problem) (S bound limit : ℕ) (rows : List Row) (todo : List ℕ) → Grounds P S bound rows todo → bound ≤ S →
     Promise P S bound limit rows todo (searchWalk P S bound limit rows todo) (searchWalk P S bound limit rows todo .outcome)
 unfolding searchWalk Promise at-once
-searchWalk-promise P S bound limit rows [] grounds = none-promise P S bound rows grounds
-searchWalk-promise P S bound limit rows (i ∷ todo) grounds =
+searchWalk-promise P S bound limit rows [] grounds within = none-promise P S bound rows grounds
+searchWalk-promise P S bound limit rows (i ∷ todo) grounds within =
     let n : ℕ = suc (length todo) in
     walk-promise
     P
@@ -388,6 +405,7 @@ searchWalk-promise P S bound limit rows (i ∷ todo) grounds =
     rows
     (i ∷ todo)
     grounds
+    within
     (walk P limit bound n rows [] (i ∷ todo) (fresh (S + 1)))
     (start-walked P S bound limit rows (i ∷ todo))
 
@@ -401,7 +419,7 @@ search-promise P S bound limit rows todo grounds =
     (λ (above : S < bound).
     subst kept (sym (search-too-narrow P S bound limit rows todo above)) (narrow-promise P S bound limit rows todo grounds above))
     (λ (within : bound ≤ S).
-    subst kept (sym (search-walks P S bound limit rows todo within)) (searchWalk-promise P S bound limit rows todo grounds))
+    subst kept (sym (search-walks P S bound limit rows todo within)) (searchWalk-promise P S bound limit rows todo grounds within))
     (below-or-not S bound)
 
 -- finished: no allowed plan ends lower, and the order shown is the first that ends there

@@ -58,7 +58,7 @@ pub record EndsAtBound (P : Problem) (bound : ℕ) (rows : List Row) (path : Lis
   pub beaten : bound < try P rows path earlier lead .mark
 
 -- a walk from one tally to another over a list of orders: it took in a first part of them, counted each, and has the lead that they
--- give; it took in all unless it met the bound or ran out of steps
+-- give; it took in all unless it met the bound or ran out of steps, and the bound did not become the mark unless it was met
 pub record Walked (P : Problem) (limit bound : ℕ) (rows : List Row) (path : List ℕ) (all : List (List ℕ)) (t u : Tally) : Type 0 where
   pub eaten : List (List ℕ)
   pub remaining : List (List ℕ)
@@ -70,3 +70,4 @@ pub record Walked (P : Problem) (limit bound : ℕ) (rows : List Row) (path : Li
   pub when-going : u .course ≡ going → remaining ≡ []
   pub when-at-bound : u .course ≡ at-bound → EndsAtBound P bound rows path eaten (leadOf t)
   pub when-out : u .course ≡ out-of-steps → (remaining ≢ []) × (limit ≤ u .steps)
+  pub bound-unmet : (u .course ≡ at-bound → ⊥) → t .mark ≢ bound → u .mark ≢ bound

@@ -15,7 +15,7 @@ use Rattle.theory.specs.Tried.{Lead, leadOf, endsAt, leadBy, try, Leads,
 use Rattle.theory.specs.TriedLaws.{below-or-not, equal-or-not, ends-above-rows, try-append, try-map, try-none, try-better, try-equalled, try-leads, leads-mark}
 
 -- a walk that goes on has not met the bound
-going-not-at-bound : going ≡ at-bound → ⊥
+pub going-not-at-bound : going ≡ at-bound → ⊥
 going-not-at-bound e = let z : _≡_ {A = ℕ} 0 1 = cc in omega arith
 
 -- a walk that goes on did not run out of steps
@@ -49,6 +49,7 @@ module _ (P : Problem) (limit bound : ℕ) where
         when-going = λ e. refl;
         when-at-bound = λ e. absurd (going-not-at-bound (sym on ∙ e));
         when-out = λ e. absurd (going-not-out (sym on ∙ e));
+        bound-unmet = λ unmet before. before;
       }
 
   -- a walk over orders after i was placed is one over those orders with i in front
@@ -77,6 +78,7 @@ module _ (P : Problem) (limit bound : ℕ) where
               beaten = subst (λ (l : Lead). bound < l .mark) (sym (try-map P rows path i (b .earlier) (leadOf t))) (b .beaten);
             };
         when-out = λ e. (map-not-empty (w .remaining) (w .when-out e .0), w .when-out e .1);
+        bound-unmet = w .bound-unmet;
       }
     where
       map-not-empty : (l : List (List ℕ)) → l ≢ [] → map (λ (o : List ℕ). i ∷ o) l ≢ []
@@ -115,6 +117,7 @@ module _ (P : Problem) (limit bound : ℕ) where
                   (z .beaten);
             };
         when-out = b .when-out;
+        bound-unmet = λ unmet before. b .bound-unmet unmet (a .bound-unmet (λ e. going-not-at-bound (sym on ∙ e)) before);
       }
 
   -- a walk that has ended leaves what comes after untouched
@@ -132,6 +135,7 @@ module _ (P : Problem) (limit bound : ℕ) where
         when-going = λ e. absurd (ended e);
         when-at-bound = w .when-at-bound;
         when-out = λ e. (append-not-empty (w .remaining) (w .when-out e .0), w .when-out e .1);
+        bound-unmet = w .bound-unmet;
       }
     where
       append-not-empty : (l : List (List ℕ)) → l ≢ [] → l ++ ys ≢ []
@@ -141,9 +145,10 @@ module _ (P : Problem) (limit bound : ℕ) where
   -- one order taken in without a step
   walked-one : (rows : List Row) (path : List ℕ) (t u : Tally) → u .reached + u .ruled ≡ t .reached + t .ruled + 1 →
       leadOf u ≡ try P rows path ([] ∷ []) (leadOf t) → u .steps ≡ t .steps → (u .course ≡ out-of-steps → ⊥) →
-      (u .course ≡ at-bound → (top P rows ≡ bound) × (bound < t .mark)) → Walked P limit bound rows path ([] ∷ []) t u
+      (u .course ≡ at-bound → (top P rows ≡ bound) × (bound < t .mark)) →
+      ((u .course ≡ at-bound → ⊥) → t .mark ≢ bound → u .mark ≢ bound) → Walked P limit bound rows path ([] ∷ []) t u
   unfolding try leadOf endsAt fill
-  walked-one rows path t u one led same-steps not-out met-it =
+  walked-one rows path t u one led same-steps not-out met-it unmet =
       record {
         eaten = [] ∷ [];
         remaining = [];
@@ -156,6 +161,7 @@ module _ (P : Problem) (limit bound : ℕ) where
         when-at-bound = λ e.
             record { earlier = []; order = []; stands = refl; meets = met-it e .0; beaten = met-it e .1 };
         when-out = λ e. absurd (not-out e);
+        bound-unmet = unmet;
       }
 
   -- the lead of a complete order is that of nothing more placed
@@ -183,12 +189,14 @@ module _ (P : Problem) (limit bound : ℕ) where
       refl
       (λ out. at-bound-not-out out)
       (λ q. (e, omega arith))
+      (λ unmet. absurd (unmet refl))
 
   -- a complete order below the mark and above the bound
   walked-better : (rows : List Row) (path : List ℕ) (t : Tally) → t .course ≡ going → top P rows < t .mark →
+      top P rows ≢ bound →
       Walked P limit bound rows path ([] ∷ []) t (improved (top P rows) rows path (t .course) t)
   unfolding improved leadOf
-  walked-better rows path t on below =
+  walked-better rows path t on below above =
       let u : Tally = improved (top P rows) rows path (t .course) t in
       walked-one
       rows
@@ -200,6 +208,7 @@ module _ (P : Problem) (limit bound : ℕ) where
       refl
       (λ out. going-not-out (sym on ∙ out))
       (λ q. absurd (going-not-at-bound (sym on ∙ q)))
+      (λ unmet before. above)
 
   -- a complete order not below the mark
   walked-equalled : (rows : List Row) (path : List ℕ) (t : Tally) → t .course ≡ going → t .mark ≤ top P rows →
@@ -216,6 +225,7 @@ module _ (P : Problem) (limit bound : ℕ) where
       refl
       (λ out. going-not-out (sym on ∙ out))
       (λ q. absurd (going-not-at-bound (sym on ∙ q)))
+      (λ unmet before. before)
 
   -- an order completed is that order taken in
   walked-complete : (rows : List Row) (path : List ℕ) (t : Tally) → t .course ≡ going →
@@ -228,7 +238,7 @@ module _ (P : Problem) (limit bound : ℕ) where
       (λ (e : top P rows ≡ bound).
       subst here (sym (complete-at-bound P limit bound rows path t below e)) (walked-at-bound rows path t below e))
       (λ (e : top P rows ≡ bound → ⊥).
-      subst here (sym (complete-above-bound P limit bound rows path t below e)) (walked-better rows path t on below))
+      subst here (sym (complete-above-bound P limit bound rows path t below e)) (walked-better rows path t on below e))
       (equal-or-not (top P rows) bound))
       (λ (not-below : t .mark ≤ top P rows).
       subst here (sym (complete-equalled P limit bound rows path t not-below)) (walked-equalled rows path t on not-below))
@@ -251,6 +261,7 @@ module _ (P : Problem) (limit bound : ℕ) where
         when-going = λ e. refl;
         when-at-bound = λ e. absurd (going-not-at-bound (sym on ∙ e));
         when-out = λ e. absurd (going-not-out (sym on ∙ e));
+        bound-unmet = λ unmet before. before;
       }
 
   -- a walk after a step that the limit allowed is a walk from before it
@@ -269,6 +280,7 @@ module _ (P : Problem) (limit bound : ℕ) where
         when-going = w .when-going;
         when-at-bound = w .when-at-bound;
         when-out = w .when-out;
+        bound-unmet = w .bound-unmet;
       }
 
   -- a step that is due with none left takes in nothing
@@ -287,6 +299,7 @@ module _ (P : Problem) (limit bound : ℕ) where
         when-going = λ e. absurd (going-not-out (sym e));
         when-at-bound = λ e. absurd (at-bound-not-out (sym e));
         when-out = λ e. (some, spent);
+        bound-unmet = λ unmet before. before;
       }
 
   -- what one level down must do: walk over the orders of n demands left
