@@ -93,14 +93,15 @@ abbrev pub halfOf : ℤ → ℕ
 halfOf (pos d) = d / 2
 halfOf (negsuc d) = 0
 
--- whether n and m are those of a block: m from 1 to S, n - n0 - m even and not negative, and the end at most S
-abbrev pub namesBlock : Band → ℤ → ℕ → Bool
-namesBlock band n m =
-    allowedWidth (band .slots) m && (evenNatural (gapOf (band .n0) n m) && endWithin (band .slots) (halfOf (gapOf (band .n0) n m)) m)
+-- the block that starts at half of n - n0 - m; or refusal 19 at place 0 where that is odd or negative, or the end is above S
+unfoldable pub blockAt : ℕ → ℤ → ℕ → BlockReply
+blockAt S gap m =
+    unless (evenNatural gap && endWithin S (halfOf gap) m) (block-reply.Refused (NoBlock 0))
+    (block-reply.Found (record { start = halfOf gap; width = m }))
 
--- the block that has n and m; or refusal 4, then 19, each at place 0
+-- the block that has n and m; or refusal 4, then 19 also for a width m that is not allowed, each at place 0
 unfoldable pub blockReply : Band → ℤ → ℕ → BlockReply
 blockReply band n m =
     unless (allowedBand band) (block-reply.Refused (BandOutside 0))
-    (unless (namesBlock band n m) (block-reply.Refused (NoBlock 0))
-    (block-reply.Found (record { start = halfOf (gapOf (band .n0) n m); width = m })))
+    (unless (allowedWidth (band .slots) m) (block-reply.Refused (NoBlock 0))
+    (blockAt (band .slots) (gapOf (band .n0) n m) m))

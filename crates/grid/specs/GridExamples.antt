@@ -5,7 +5,7 @@ use Rattle.refusal.specs.declared.Refusal.the-variants.{NoBlock}
 use Rattle.grid.specs.declared.Band.{Band}
 use Rattle.grid.specs.declared.FrequencyReply.the-variants.{Centred}
 use Rattle.grid.specs.declared.BlockReply.the-variants.{Found, Refused}
-use Rattle.grid.specs.Grid.{frequencyReply, blockReply}
+use Rattle.grid.specs.Grid.{frequencyReply, blockAt, blockReply}
 
 -- the band of both examples
 abbrev lowBand : Band
@@ -18,5 +18,5 @@ c10 = (refl, refl, refl)
 
 -- c11: with m = 2, n = -282 gives start 0, and its neighbours -283 and -281 give 19
 pub c11 : (blockReply lowBand (negℤ (pos 282)) 2 ≡ Found (record { start = 0; width = 2 })) × (blockReply lowBand (negℤ (pos 283)) 2 ≡ Refused (NoBlock 0)) × (blockReply lowBand (negℤ (pos 281)) 2 ≡ Refused (NoBlock 0))
-unfolding blockReply
+unfolding blockReply blockAt
 c11 = (refl, refl, refl)

@@ -1,7 +1,7 @@
 -- The theorems of the grid: a block and its frequency name each other, and each call has one right answer.
 use Prim.Native.Nat.{ℕ, _+_, _*_, _%_}
 use mathlib.Core.Path.{_≡_, sym, _∙_, ap}
-use mathlib.Core.Bool.{Bool, true, _&&_}
+use mathlib.Core.Bool.{Bool, true}
 use native.Mathlib.Omega.{arith}
 use borrow.Author.Tests.{eq-eqb, eqb-true}
 use lib.IntN.{ℤ, pos, negsuc, _+ℤ_, _-ℤ_, +ℤ-comm, +ℤ-negℤ-cancel, -ℤ-+ℤ-cancel}
@@ -14,8 +14,8 @@ use Rattle.grid.specs.declared.FrequencyReply.the-variants as frequency-
 use Rattle.grid.specs.declared.Block.{Block}
 use Rattle.grid.specs.declared.BlockReply.{BlockReply}
 use Rattle.grid.specs.declared.BlockReply.the-variants as block-reply
-use Rattle.grid.specs.Grid.{allowedBand, bandReply, allowedWidth, endWithin, centralNumber, centralMHz, frequencyOf, frequencyReply, gapOf, evenNatural, halfOf, namesBlock, blockReply}
-use Rattle.grid.specs.ReplyLaws.{first-of-both, second-of-both, by-test, frequency-outside, frequency-width, frequency-end, frequency-centred, block-outside, block-none, block-found, named-end}
+use Rattle.grid.specs.Grid.{allowedBand, bandReply, allowedWidth, endWithin, centralNumber, centralMHz, frequencyOf, frequencyReply, gapOf, evenNatural, halfOf, blockAt, blockReply}
+use Rattle.grid.specs.ReplyLaws.{by-test, frequency-outside, frequency-width, frequency-end, frequency-centred, block-outside, block-width, block-gap, at-odd, at-end, at-half}
 
 -- ---- the numbers alone
 
@@ -65,10 +65,12 @@ centres band s w f h =
     (λ width. refused-not-centred _ f (sym (frequency-width band s w allowed width) ∙ h)))
     (λ allowed. refused-not-centred _ f (sym (frequency-outside band s w allowed) ∙ h))
 
--- two numbers that have a block: the band is allowed, they name a block, and the block is that one
+-- two numbers that have a block: the band, the width and the end are allowed, the gap is even and not negative, and the block is that one
 pub record Finds (band : Band) (n : ℤ) (m : ℕ) (b : Block) : Type 0 where
   pub allowed : allowedBand band ≡ true
-  pub named : namesBlock band n m ≡ true
+  pub width : allowedWidth (band .slots) m ≡ true
+  pub even : evenNatural (gapOf (band .n0) n m) ≡ true
+  pub end : endWithin (band .slots) (halfOf (gapOf (band .n0) n m)) m ≡ true
   pub is : b ≡ record { start = halfOf (gapOf (band .n0) n m); width = m }
 
 -- a refusal is no block
@@ -78,11 +80,20 @@ refused-not-found r b h = absurd (let no : _≡_ {A = ℕ} 0 1 = cc in omega ari
 -- a reply that holds a block comes of two numbers that have it
 pub finds : (band : Band) (n : ℤ) (m : ℕ) (b : Block) → blockReply band n m ≡ block-reply.Found b → Finds band n m b
 finds band n m b h =
+    let S = band .slots in
+    let gap = gapOf (band .n0) n m in
     by-test (allowedBand band)
     (λ allowed.
-    by-test (namesBlock band n m)
-    (λ named. record { allowed = allowed; named = named; is = cc (block-found band n m allowed named) })
-    (λ named. refused-not-found _ b (sym (block-none band n m allowed named) ∙ h)))
+    by-test (allowedWidth S m)
+    (λ width.
+    let at : blockAt S gap m ≡ block-reply.Found b = sym (block-gap band n m allowed width) ∙ h in
+    by-test (evenNatural gap)
+    (λ even.
+    by-test (endWithin S (halfOf gap) m)
+    (λ end. record { allowed = allowed; width = width; even = even; end = end; is = cc (at-half S gap m even end) })
+    (λ end. refused-not-found _ b (sym (at-end S gap m even end) ∙ at)))
+    (λ even. refused-not-found _ b (sym (at-odd S gap m even) ∙ at)))
+    (λ width. refused-not-found _ b (sym (block-width band n m allowed width) ∙ h)))
     (λ allowed. refused-not-found _ b (sym (block-outside band n m allowed) ∙ h))
 
 -- ---- there and back
@@ -90,13 +101,10 @@ finds band n m b h =
 -- in an allowed band, the numbers of a block whose width and end are allowed name that block
 pub block-names-itself : (band : Band) (s w : ℕ) → allowedBand band ≡ true → allowedWidth (band .slots) w ≡ true → endWithin (band .slots) s w ≡ true → blockReply band (centralNumber (band .n0) s w) w ≡ block-reply.Found (record { start = s; width = w })
 block-names-itself band s w allowed width end =
-    let gap = gap-of-block (band .n0) s w in
-    let even : evenNatural (gapOf (band .n0) (centralNumber (band .n0) s w) w) ≡ true =
-    ap evenNatural gap ∙ eq-eqb (2 * s % 2) 0 (omega arith) in
-    let half : halfOf (gapOf (band .n0) (centralNumber (band .n0) s w) w) ≡ s =
-    ap halfOf gap ∙ omega arith in
-    block-found band (centralNumber (band .n0) s w) w allowed
-    (named-end band (centralNumber (band .n0) s w) w width even ∙ ap (λ (h : ℕ). endWithin (band .slots) h w) half ∙ end) ∙
+    let half : halfOf (pos (2 * s)) ≡ s = omega arith in
+    block-gap band (centralNumber (band .n0) s w) w allowed width ∙
+    ap (λ (gap : ℤ). blockAt (band .slots) gap w) (gap-of-block (band .n0) s w) ∙
+    at-half (band .slots) (pos (2 * s)) w (eq-eqb (2 * s % 2) 0 (omega arith)) (ap (λ (h : ℕ). endWithin (band .slots) h w) half ∙ end) ∙
     ap (λ (h : ℕ). block-reply.Found (record { start = h; width = w })) half
 
 -- a block turned into its frequency and back is the same block
@@ -110,14 +118,9 @@ block-and-back band s w f h =
 pub numbers-and-back : (band : Band) (n : ℤ) (m : ℕ) (b : Block) → blockReply band n m ≡ block-reply.Found b → frequencyReply band (b .start) (b .width) ≡ frequency-reply.Centred (record { n = n; m = m; mhz = centralMHz n })
 numbers-and-back band n m b h =
     let f = finds band n m b h in
-    let gap = gapOf (band .n0) n m in
-    let width = first-of-both (allowedWidth (band .slots) m) (evenNatural gap && endWithin (band .slots) (halfOf gap) m) (f .named) in
-    let rest = second-of-both (allowedWidth (band .slots) m) (evenNatural gap && endWithin (band .slots) (halfOf gap) m) (f .named) in
-    let even = first-of-both (evenNatural gap) (endWithin (band .slots) (halfOf gap) m) rest in
-    let end = second-of-both (evenNatural gap) (endWithin (band .slots) (halfOf gap) m) rest in
     ap (λ (k : Block). frequencyReply band (k .start) (k .width)) (f .is) ∙
-    frequency-centred band (halfOf gap) m (f .allowed) width end ∙
-    ap (λ (k : ℤ). frequency-reply.Centred (record { n = k; m = m; mhz = centralMHz k })) (block-of-gap (band .n0) n m even)
+    frequency-centred band (halfOf (gapOf (band .n0) n m)) m (f .allowed) (f .width) (f .end) ∙
+    ap (λ (k : ℤ). frequency-reply.Centred (record { n = k; m = m; mhz = centralMHz k })) (block-of-gap (band .n0) n m (f .even))
 
 -- two numbers that are accepted are those of one block only
 pub one-block : (band : Band) (n : ℤ) (m : ℕ) (b : Block) → blockReply band n m ≡ block-reply.Found b → (s w : ℕ) (f : Frequency) → frequencyReply band s w ≡ frequency-reply.Centred f → f .n ≡ n → f .m ≡ m → record { start = s; width = w } ≡ b

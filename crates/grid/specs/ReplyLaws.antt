@@ -1,6 +1,6 @@
--- Laws of the band and of the two replies: one for each way a reply can go.
+-- Laws of tests, which the crates above cite too; and laws of the replies, one for each way a reply can go.
 use Prim.Native.Nat.{ℕ, _+_, _-_, _≤_}
-use mathlib.Core.Path.{_≡_, refl, sym, _∙_, ap}
+use mathlib.Core.Path.{_≡_, refl, sym, _∙_}
 use mathlib.Core.Bool.{Bool, true, false, not, _&&_}
 use native.Mathlib.Omega.{arith}
 use borrow.Author.Tests.{leb-true, leb-false, le-leb, lt-leb, not-true, not-false}
@@ -11,7 +11,9 @@ use Rattle.grid.specs.declared.Band.{Band}
 use Rattle.grid.specs.declared.BandReply.the-variants as band-reply
 use Rattle.grid.specs.declared.FrequencyReply.the-variants as frequency-reply
 use Rattle.grid.specs.declared.BlockReply.the-variants as block-reply
-use Rattle.grid.specs.Grid.{unless, allowedBand, bandReply, allowedWidth, endWithin, frequencyOf, frequencyReply, gapOf, evenNatural, halfOf, namesBlock, blockReply}
+use Rattle.grid.specs.Grid.{allowedBand, bandReply, allowedWidth, endWithin, frequencyOf, frequencyReply, gapOf, evenNatural, halfOf, blockAt, blockReply}
+
+-- ---- tests
 
 -- where the first test holds, both hold when the second does
 pub both-if : (a b : Bool) → a ≡ true → b ≡ a && b
@@ -46,26 +48,15 @@ passed-by h k = sym h ∙ not-false _ k
 pub refused-by : {found b : Bool} → found ≡ b → not found ≡ true → b ≡ false
 refused-by h k = sym h ∙ not-true _ k
 
-module _ {A : Type 0} where
-  -- where the test fails, the refusal is given
-  pub unless-not : (b : Bool) (refusal rest : A) → b ≡ false → unless b refusal rest ≡ refusal
-  unless-not b refusal rest h = ap (λ (t : Bool). unless t refusal rest) h
-
-  -- where the test holds, the rest is given
-  pub unless-so : (b : Bool) (refusal rest : A) → b ≡ true → unless b refusal rest ≡ rest
-  unless-so b refusal rest h = ap (λ (t : Bool). unless t refusal rest) h
+-- ---- replies
 
 -- a band whose numbers are within their limits is answered
 pub band-allowed : (n0 : ℤ) (S G : ℕ) → allowedBand (record { n0 = n0; slots = S; guard = G }) ≡ true → bandReply n0 S G ≡ band-reply.Allowed (record { n0 = n0; slots = S; guard = G })
-band-allowed n0 S G h =
-    unless-so (allowedBand (record { n0 = n0; slots = S; guard = G })) (band-reply.Refused (BandOutside 0))
-    (band-reply.Allowed (record { n0 = n0; slots = S; guard = G })) h
+band-allowed n0 S G h = rw h
 
 -- a band with a number outside its limits is refused with 4
 pub band-outside : (n0 : ℤ) (S G : ℕ) → allowedBand (record { n0 = n0; slots = S; guard = G }) ≡ false → bandReply n0 S G ≡ band-reply.Refused (BandOutside 0)
-band-outside n0 S G h =
-    unless-not (allowedBand (record { n0 = n0; slots = S; guard = G })) (band-reply.Refused (BandOutside 0))
-    (band-reply.Allowed (record { n0 = n0; slots = S; guard = G })) h
+band-outside n0 S G h = rw h
 
 module _ (band : Band) (s w : ℕ) where
   -- a band outside its limits: 4
@@ -95,30 +86,34 @@ room-left S s w h =
     (λ fits. fits ∙ sym (le-leb (s + w) S (omega (arith, leb-true s (S - w) fits))))
     (λ not-fits. not-fits ∙ sym (lt-leb (s + w) S (omega (arith, leb-false s (S - w) not-fits))))
 
+module _ (S : ℕ) (gap : ℤ) (m : ℕ) where
+  -- a gap that is odd or negative: 19
+  pub at-odd : evenNatural gap ≡ false → blockAt S gap m ≡ block-reply.Refused (NoBlock 0)
+  unfolding blockAt
+  at-odd h = rw h
+
+  -- then an end above the slot count: 19
+  pub at-end : evenNatural gap ≡ true → endWithin S (halfOf gap) m ≡ false → blockAt S gap m ≡ block-reply.Refused (NoBlock 0)
+  unfolding blockAt
+  at-end h k = rw (h, k)
+
+  -- every other gap has its block
+  pub at-half : evenNatural gap ≡ true → endWithin S (halfOf gap) m ≡ true → blockAt S gap m ≡ block-reply.Found (record { start = halfOf gap; width = m })
+  unfolding blockAt
+  at-half h k = rw (h, k)
+
 module _ (band : Band) (n : ℤ) (m : ℕ) where
   -- a band outside its limits: 4
   pub block-outside : allowedBand band ≡ false → blockReply band n m ≡ block-reply.Refused (BandOutside 0)
   unfolding blockReply
   block-outside h = rw h
 
-  -- in an allowed band, numbers that no block has: 19
-  pub block-none : allowedBand band ≡ true → namesBlock band n m ≡ false → blockReply band n m ≡ block-reply.Refused (NoBlock 0)
+  -- in an allowed band, a width number that is none: 19
+  pub block-width : allowedBand band ≡ true → allowedWidth (band .slots) m ≡ false → blockReply band n m ≡ block-reply.Refused (NoBlock 0)
   unfolding blockReply
-  block-none h k = rw (h, k)
+  block-width h k = rw (h, k)
 
-  -- every other pair of numbers has its block
-  pub block-found : allowedBand band ≡ true → namesBlock band n m ≡ true → blockReply band n m ≡ block-reply.Found (record { start = halfOf (gapOf (band .n0) n m); width = m })
+  -- for every other width number the gap decides
+  pub block-gap : allowedBand band ≡ true → allowedWidth (band .slots) m ≡ true → blockReply band n m ≡ blockAt (band .slots) (gapOf (band .n0) n m) m
   unfolding blockReply
-  block-found h k = rw (h, k)
-
-  -- a width number outside 1 to S names no block
-  pub unnamed-width : allowedWidth (band .slots) m ≡ false → namesBlock band n m ≡ false
-  unnamed-width h = rw h
-
-  -- nor does a gap that is odd or negative
-  pub unnamed-gap : allowedWidth (band .slots) m ≡ true → evenNatural (gapOf (band .n0) n m) ≡ false → namesBlock band n m ≡ false
-  unnamed-gap h k = rw (h, k)
-
-  -- where both are right, the end decides
-  pub named-end : allowedWidth (band .slots) m ≡ true → evenNatural (gapOf (band .n0) n m) ≡ true → namesBlock band n m ≡ endWithin (band .slots) (halfOf (gapOf (band .n0) n m)) m
-  named-end h k = rw (h, k)
+  block-gap h k = rw (h, k)

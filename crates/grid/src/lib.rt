@@ -2,7 +2,7 @@
 use refusal::Refusal;
 ghost use mathlib.Core.Path.{_≡_};
 ghost use mathlib.Core.Bool.{true};
-ghost use Rattle.grid.specs.Grid.{allowedEdge, allowedSlots, allowedBand, bandReply, allowedWidth, endWithin, centralNumber, centralMHz, frequencyReply, gapOf, evenNatural, halfOf, blockReply};
+ghost use Rattle.grid.specs.Grid.{allowedEdge, allowedSlots, allowedBand, bandReply, allowedWidth, endWithin, centralNumber, centralMHz, frequencyReply, gapOf, evenNatural, halfOf, blockAt, blockReply};
 
 // A slotted part of the spectrum.
 pub struct Band {
@@ -144,7 +144,13 @@ pub fn from_frequency(band: Band, n: i32, m: u16) -> BlockReply
         return BlockReply::Refused(Refusal::NoBlock(0));
     }
     let n0 = band.n0;
-    let twice = gap(n0, n, m);
+    block_at(slots, gap(n0, n, m), m)
+}
+
+// The block that starts at half of `twice`. Sign and oddness are tested before it is halved.
+fn block_at(slots: u16, twice: i64, m: u16) -> BlockReply
+    ensures { λ r. ⌜ r ≡ blockAt slots twice m ⌝ }
+{
     if !even_natural(twice) {
         return BlockReply::Refused(Refusal::NoBlock(0));
     }

@@ -1,12 +1,11 @@
 -- `grid::to_frequency` meets its contract: each way through it is one law of the reply. Assumes nothing.
 use mathlib.Core.Path.{_≡_, sym, _∙_, ap}
-use mathlib.Core.Bool.{true, false}
 use borrow.Author.Needs.{needs}
 use lib.IntN.{ℤ}
 use mir.Facts.{toZ-ofZ}
 use mir.Val.{toZ, ofZ}
 use mir.Syntax.{w16, w32, w64}
-use Rattle.grid.specs.Grid.{allowedBand, allowedWidth, endWithin, centralNumber, centralMHz}
+use Rattle.grid.specs.Grid.{centralNumber, centralMHz}
 use Rattle.grid.specs.ReplyLaws.{passed-by, refused-by, frequency-outside, frequency-width, frequency-end, frequency-centred}
 use Rattle.grid.proofs.to_frequency.Statement.{statement}
 use Rattle.grid.proofs.to_frequency.Tie as tie
@@ -17,8 +16,7 @@ allowed-requires c κs = search needs
 returns : tie.Need-returns
 returns c =
     let a = c .before .before .args in
-    let allowed : allowedBand (a .band) ≡ false = refused-by (c .before .allowed .ensures) (c .if1 .taken) in
-    sym (frequency-outside (a .band) (a .start) (a .width) allowed)
+    sym (frequency-outside (a .band) (a .start) (a .width) (refused-by (c .before .allowed .ensures) (c .if1 .taken)))
 
 width-allowed-requires : tie.Need-width-allowed-requires
 width-allowed-requires c κs = search needs
@@ -29,21 +27,16 @@ end-within-requires c κs = search needs
 returns-2 : tie.Need-returns-2
 returns-2 c =
     let a = c .before .before .before .before .before .args in
-    let allowed : allowedBand (a .band) ≡ true =
-    passed-by (c .before .before .before .before .allowed .ensures) (c .before .before .before .if1 .left) in
-    let width : allowedWidth (a .band .slots) (a .width) ≡ false =
-    refused-by (c .before .before .width-allowed .ensures) (c .if2 .taken) in
+    let allowed = passed-by (c .before .before .before .before .allowed .ensures) (c .before .before .before .if1 .left) in
+    let width = refused-by (c .before .before .width-allowed .ensures) (c .if2 .taken) in
     sym (frequency-width (a .band) (a .start) (a .width) allowed width)
 
 returns-3 : tie.Need-returns-3
 returns-3 c =
     let a = c .before .before .before .before .before .before .args in
-    let allowed : allowedBand (a .band) ≡ true =
-    passed-by (c .before .before .before .before .before .allowed .ensures) (c .before .before .before .before .if1 .left) in
-    let width : allowedWidth (a .band .slots) (a .width) ≡ true =
-    passed-by (c .before .before .before .width-allowed .ensures) (c .before .if2 .left) in
-    let end : endWithin (a .band .slots) (a .start) (a .width) ≡ false =
-    refused-by (c .before .before .end-within .ensures) (c .if3 .taken) in
+    let allowed = passed-by (c .before .before .before .before .before .allowed .ensures) (c .before .before .before .before .if1 .left) in
+    let width = passed-by (c .before .before .before .width-allowed .ensures) (c .before .if2 .left) in
+    let end = refused-by (c .before .before .end-within .ensures) (c .if3 .taken) in
     sym (frequency-end (a .band) (a .start) (a .width) allowed width end)
 
 central-number-requires : tie.Need-central-number-requires
@@ -55,12 +48,9 @@ central-mhz-requires c κs = search needs
 returns-4 : tie.Need-returns-4
 returns-4 c =
     let a = c .before .before .before .before .before .before .before .before .before .args in
-    let allowed : allowedBand (a .band) ≡ true =
-    passed-by (c .before .before .before .before .before .before .before .before .allowed .ensures) (c .before .before .before .before .before .before .before .if1 .left) in
-    let width : allowedWidth (a .band .slots) (a .width) ≡ true =
-    passed-by (c .before .before .before .before .before .before .width-allowed .ensures) (c .before .before .before .before .if2 .left) in
-    let end : endWithin (a .band .slots) (a .start) (a .width) ≡ true =
-    passed-by (c .before .before .before .before .before .end-within .ensures) (c .before .before .before .if3 .left) in
+    let allowed = passed-by (c .before .before .before .before .before .before .before .before .allowed .ensures) (c .before .before .before .before .before .before .before .if1 .left) in
+    let width = passed-by (c .before .before .before .before .before .before .width-allowed .ensures) (c .before .before .before .before .if2 .left) in
+    let end = passed-by (c .before .before .before .before .before .end-within .ensures) (c .before .before .before .if3 .left) in
     let edge : toZ w16 (ofZ w16 (a .band .n0)) ≡ a .band .n0 = toZ-ofZ (search needs) in
     let n : toZ w32 (ofZ w32 (c .before .central-number .result)) ≡ centralNumber (a .band .n0) (a .start) (a .width) =
     toZ-ofZ (record { sfits = c .before .central-number .ok }) ∙ c .before .central-number .ensures ∙
