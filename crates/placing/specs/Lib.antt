@@ -3,3 +3,4 @@ pub mod Placing
 pub mod Plan
 pub mod PlanLaws
 pub mod PlanEndLaws
+pub mod BoundLaws

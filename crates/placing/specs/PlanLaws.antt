@@ -21,12 +21,12 @@ use Rattle.placing.specs.Placing.{shareLink, problemOf}
 use Rattle.placing.specs.Plan.{startAt, Holds, Parted, AllowedPlan}
 
 -- what stands first in a list stands in it
-has-first : (a : ℕ) (route : List ℕ) → has a (a ∷ route) ≡ true
+pub has-first : (a : ℕ) (route : List ℕ) → has a (a ∷ route) ≡ true
 unfolding has
 has-first a route = rw (eq-eqb a a refl)
 
 -- two routes that share a link have a link in common
-shared-link : (a b : List ℕ) → shareLink a b ≡ true → (link : ℕ) × (has link a ≡ true) × (has link b ≡ true)
+pub shared-link : (a b : List ℕ) → shareLink a b ≡ true → (link : ℕ) × (has link a ≡ true) × (has link b ≡ true)
 unfolding shareLink has
 shared-link [] b h = absurd (mathlib.Core.Bool.false≢true h)
 shared-link (x ∷ a) b h =
@@ -115,7 +115,7 @@ module _ (v : View) (starts : List ℕ) (sound : SoundRequest v)
           (unjoined-apart (problemOf v) i (startAt starts i) j (startAt starts j))
 
 -- two routes with a link in common share a link
-sharing : (link : ℕ) (a b : List ℕ) → has link a ≡ true → has link b ≡ true → shareLink a b ≡ true
+pub sharing : (link : ℕ) (a b : List ℕ) → has link a ≡ true → has link b ≡ true → shareLink a b ≡ true
 unfolding shareLink has
 sharing link [] b h k = absurd (mathlib.Core.Bool.false≢true h)
 sharing link (x ∷ a) b h k =
