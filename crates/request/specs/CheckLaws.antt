@@ -1,25 +1,25 @@
 -- The test of a request in memory, step by step.
-use Prim.Native.Nat.{ℕ, zero, suc, _+_, _≤_, _<_}
-use mathlib.Core.Bool.{Bool, true, false, cond, not}
-use mathlib.Core.List.{List, [], _∷_, _++_, map}
+use Prim.Native.Nat.{ℕ, _+_, _≤_, _<_}
+use mathlib.Core.Bool.{Bool, true, false, cond}
+use mathlib.Core.List.{List, [], _∷_, _++_}
 use mathlib.Core.Logic.{_≢_}
 use mathlib.Core.Path.{_≡_, refl, sym, _∙_, ap}
 use native.Mathlib.Omega.{arith}
 use native.Mathlib.Numerals.{add-one}
 use borrow.Author.Tests.{ltb-true, ltb-false, lt-ltb, le-ltb, eq-eqb, ne-eqb, leb-true}
-use lib.ListN.{length, take, drop, getD, drop-of-length-le}
+use lib.ListN.{length, drop, drop-of-length-le}
 use lib.Seq.{drop-cons}
 use lib.Dec.{leb, ltb, eqb}
 use Rattle.refusal.specs.declared.Refusal.{Refusal}
 use Rattle.refusal.specs.declared.Refusal.the-variants.{WrongTag, WrongLength, BandOutside, BadLink, TooManyDemands, BadRoute, IdentUsed, BadWidth}
 use Rattle.grid.specs.declared.Band.{Band}
 use Rattle.grid.specs.Grid.{allowedBand}
-use Rattle.grid.specs.ReplyLaws.{by-test, first-of-both, second-of-both}
 use Rattle.request.specs.declared.Link.{Link}
 use Rattle.request.specs.declared.Checked.{Checked}
 use Rattle.request.specs.declared.Checked.the-variants.{Sound, Refused}
-use Rattle.request.specs.View.{DemandView, View, linkAt, noLink, demandAt, noDemand}
-use Rattle.request.specs.Check.{then, has, soundRoute, allowedWidth, allowedHops, checkBand, checkSomeLink, checkLinks, checkLinkCount, checkDemand, checkDemands, checkDemandCount, check}
+use Rattle.request.specs.View.{DemandView, linkAt, noLink, demandAt, noDemand}
+use Rattle.request.specs.TestLaws.{by-test, first-of, second-of}
+use Rattle.request.specs.Check.{then, has, soundRoute, allowedWidth, allowedHops, checkBand, checkSomeLink, checkLinks, checkLinkCount, checkDemand, checkDemands, checkDemandCount}
 
 -- after a check that passes comes the next
 pub then-sound : (a next : Checked) → a ≡ Sound → then a next ≡ next
@@ -43,22 +43,11 @@ unfolding then
 next-sound Sound next h = h
 next-sound (Refused why) next h = absurd (let z : _≡_ {A = ℕ} 0 1 = cc in omega arith)
 
--- four checks and what comes after them: the four first
-four-first : (a b c d next : Checked) → then a (then b (then c (then d next))) ≡ then (then a (then b (then c d))) next
+-- a run of checks may be taken in two parts
+pub then-assoc : (a b c : Checked) → then a (then b c) ≡ then (then a b) c
 unfolding then
-four-first (Refused why) b c d next = refl
-four-first Sound (Refused why) c d next = refl
-four-first Sound Sound (Refused why) d next = refl
-four-first Sound Sound Sound d next = refl
-
--- where one of four checks refuses, nothing comes after them
-pub four-refused : (a b c d next : Checked) (why : Refusal) → then a (then b (then c d)) ≡ Refused why →
-    then a (then b (then c (then d next))) ≡ Refused why
-four-refused a b c d next why h = four-first a b c d next ∙ then-refused (then a (then b (then c d))) next why h
-
--- where four checks pass, the next one is made
-pub four-sound : (a b c d next : Checked) → then a (then b (then c d)) ≡ Sound → then a (then b (then c (then d next))) ≡ next
-four-sound a b c d next h = four-first a b c d next ∙ then-sound (then a (then b (then c d))) next h
+then-assoc Sound b c = refl
+then-assoc (Refused why) b c = refl
 
 -- an allowed band passes
 pub band-passes : (band : Band) → allowedBand band ≡ true → checkBand band ≡ Sound
@@ -112,14 +101,14 @@ few-demands count h = ap (λ (b : Bool). cond b (Refused (TooManyDemands 200)) S
 -- an allowed width is 1 to S
 pub width-allowed : (S w : ℕ) → allowedWidth S w ≡ true → (1 ≤ w) × (w ≤ S)
 unfolding allowedWidth
-width-allowed S w h = (leb-true 1 w (first-of-both (leb 1 w) (leb w S) h), leb-true w S (second-of-both (leb 1 w) (leb w S) h))
+width-allowed S w h = (leb-true 1 w (first-of (leb 1 w) (leb w S) h), leb-true w S (second-of (leb 1 w) (leb w S) h))
 
 -- an allowed route length is 1 to 32
 pub hops-allowed : (hops : ℕ) → allowedHops hops ≡ true → (1 ≤ hops) × (hops ≤ 32)
 unfolding allowedHops
 hops-allowed hops h = (
-  leb-true 1 hops (first-of-both (leb 1 hops) (leb hops 32) h),
-  leb-true hops 32 (second-of-both (leb 1 hops) (leb hops 32) h),
+  leb-true 1 hops (first-of (leb 1 hops) (leb hops 32) h),
+  leb-true hops 32 (second-of (leb 1 hops) (leb hops 32) h),
 )
 
 -- the links from a position on: the one there, then those behind it

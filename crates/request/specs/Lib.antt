@@ -8,3 +8,8 @@ pub mod Route
 pub mod RouteLaws
 pub mod CheckLaws
 pub mod ViewLaws
+pub mod Steps
+pub mod StepsLaws
+pub mod Whole
+pub mod Passes
+pub mod SoundLaws

@@ -1,8 +1,8 @@
 -- The tests of a route say what holds position by position.
 use Prim.Native.Nat.{ℕ, zero, suc, _+_, _-_, _≤_, _<_}
 use mathlib.Core.Bool.{Bool, true, false, not, _&&_, _||_, or-true}
-use mathlib.Core.List.{List, [], _∷_, _++_}
-use mathlib.Core.Logic.{_≢_, ⊎-elim}
+use mathlib.Core.List.{List, [], _∷_}
+use mathlib.Core.Logic.{_≢_}
 use mathlib.Core.Path.{_≡_, refl, sym, _∙_, ap, subst}
 use native.Mathlib.Omega.{arith}
 use native.Mathlib.Numerals.{add-one}
@@ -11,12 +11,11 @@ use borrow.Author.Count.{below-more}
 use lib.ListN.{length, take, getD}
 use lib.Seq.{length-take-le, getD-take}
 use lib.Dec.{ltb, eqb}
-use Rattle.grid.specs.ReplyLaws.{by-test, first-of-both, second-of-both}
 use Rattle.request.specs.declared.Link.{Link}
 use Rattle.request.specs.View.{linkAt}
 use Rattle.request.specs.Check.{has, listed, once, unbroken, soundRoute}
 use Rattle.request.specs.Route.{RouteHolds, RouteCome}
-use Rattle.request.specs.TestLaws.{never-both, not-held, both, neither, first-fails, second-fails}
+use Rattle.request.specs.TestLaws.{by-test, never-both, not-held, first-of, second-of, both, neither, first-fails, second-fails}
 
 -- a number that no position has does not stand in a list
 pub none-has : (x : ℕ) (xs : List ℕ) → ((i : ℕ) → i < length xs → x ≡ getD xs i 0 → ⊥) → has x xs ≡ false
@@ -57,8 +56,8 @@ early-none x xs n fits none i h e =
 listed-at : (n : ℕ) (route : List ℕ) → listed n route ≡ true → (p : ℕ) → p < length route → getD route p 0 < n
 unfolding listed
 listed-at n [] all p h = absurd (omega arith)
-listed-at n (a ∷ route) all zero h = ltb-true a n (first-of-both (ltb a n) (listed n route) all)
-listed-at n (a ∷ route) all (suc p) h = listed-at n route (second-of-both (ltb a n) (listed n route) all) p (omega arith)
+listed-at n (a ∷ route) all zero h = ltb-true a n (first-of (ltb a n) (listed n route) all)
+listed-at n (a ∷ route) all (suc p) h = listed-at n route (second-of (ltb a n) (listed n route) all) p (omega arith)
 
 -- a route is listed where each position is
 at-listed : (n : ℕ) (route : List ℕ) → ((p : ℕ) → p < length route → getD route p 0 < n) → listed n route ≡ true
@@ -74,9 +73,9 @@ unfolding once
 once-at [] all p q pq h e = omega arith
 once-at (a ∷ route) all p zero pq h e = omega arith
 once-at (a ∷ route) all zero (suc q) pq h e =
-    has-none a route (not-true (has a route) (first-of-both (not (has a route)) (once route) all)) q (omega arith) e
+    has-none a route (not-true (has a route) (first-of (not (has a route)) (once route) all)) q (omega arith) e
 once-at (a ∷ route) all (suc p) (suc q) pq h e =
-    once-at route (second-of-both (not (has a route)) (once route) all) p q (omega arith) (omega arith) e
+    once-at route (second-of (not (has a route)) (once route) all) p q (omega arith) (omega arith) e
 
 -- a route whose positions differ has no link twice
 at-once : (route : List ℕ) → ((p q : ℕ) → p < q → q < length route → getD route p 0 ≢ getD route q 0) → once route ≡ true
@@ -97,10 +96,10 @@ unbroken-at links [] all p h = absurd (omega arith)
 unbroken-at links (a ∷ []) all p h = absurd (omega arith)
 unbroken-at links (a ∷ b ∷ route) all zero h =
     eqb-true (linkAt links a .to) (linkAt links b .from)
-    (first-of-both (eqb (linkAt links a .to) (linkAt links b .from)) (unbroken links (b ∷ route)) all)
+    (first-of (eqb (linkAt links a .to) (linkAt links b .from)) (unbroken links (b ∷ route)) all)
 unbroken-at links (a ∷ b ∷ route) all (suc p) h =
     unbroken-at links (b ∷ route)
-    (second-of-both (eqb (linkAt links a .to) (linkAt links b .from)) (unbroken links (b ∷ route)) all) p (omega arith)
+    (second-of (eqb (linkAt links a .to) (linkAt links b .from)) (unbroken links (b ∷ route)) all) p (omega arith)
 
 -- a route in which each link begins where the one before ends is unbroken
 at-unbroken : (links : List Link) (route : List ℕ) →
@@ -120,13 +119,13 @@ pub sound-holds : (links : List Link) (route : List ℕ) → soundRoute links ro
 unfolding soundRoute
 sound-holds links route sound =
     let rest : once route && unbroken links route ≡ true
-    = second-of-both (listed (length links) route) (once route && unbroken links route) sound in
+    = second-of (listed (length links) route) (once route && unbroken links route) sound in
     record {
-      each-listed = listed-at (length links) route (first-of-both (listed (length links) route) (once route && unbroken links route) sound);
-      none-twice = once-at route (first-of-both (once route) (unbroken links route) rest);
+      each-listed = listed-at (length links) route (first-of (listed (length links) route) (once route && unbroken links route) sound);
+      none-twice = once-at route (first-of (once route) (unbroken links route) rest);
       no-gap =
           λ (p : ℕ) (h : p + 1 < length route).
-          rw (add-one p) (unbroken-at links route (second-of-both (once route) (unbroken links route) rest) p (omega arith));
+          rw (add-one p) (unbroken-at links route (second-of (once route) (unbroken links route) rest) p (omega arith));
     }
 
 -- a route whose positions say so is sound

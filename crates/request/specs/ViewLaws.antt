@@ -1,13 +1,11 @@
 -- What a request's view shows: the entries before the counts, and nothing else.
-use Prim.Native.Nat.{ℕ, _≤_, _<_, min}
+use Prim.Native.Nat.{ℕ, _<_, min}
 use mathlib.Core.List.{List, [], map}
-use mathlib.Core.Path.{_≡_, refl, sym, ap, _∙_}
+use mathlib.Core.Path.{_≡_, sym, ap, _∙_}
 use lib.ListN.{length, take, getD, length-map, length-take, List·getD-map}
 use lib.Seq.{getD-take}
-use Rattle.request.specs.declared.Link.{Link}
-use Rattle.request.specs.declared.Demand.{Demand}
 use Rattle.request.specs.declared.Request.{Request}
-use Rattle.request.specs.View.{DemandView, viewDemand, view, noLink, noDemand, linkAt, demandAt}
+use Rattle.request.specs.View.{viewDemand, view, noLink, noDemand, linkAt, demandAt}
 
 -- a view has as many links as the request says, or as its array holds
 pub links-shown : (r : Request) → length (view r .links) ≡ min (r .«link_count») (length (r .links))

@@ -10,7 +10,8 @@ ghost use mathlib.Core.Path.{_≡_};
 ghost use Prim.Native.Nat.{_≤_};
 ghost use lib.ListN.{take};
 ghost use Rattle.request.specs.View.{view, viewDemand};
-ghost use Rattle.request.specs.Check.{then, has, checkBand, checkSomeLink, checkLinks, checkLinkCount, checkDemand, check, allowedWidth, allowedHops};
+ghost use Rattle.request.specs.Check.{has, allowedWidth, allowedHops, checkDemand, check};
+ghost use Rattle.request.specs.Steps.{checkAllLinks, checkGround};
 
 // Whether a request is sound, or the first fault in the order of its checks: the band, the links one by one, the demands one
 // by one. A place is a listing position, 0 for the band or no link. What stands behind a count is not read.
@@ -45,7 +46,7 @@ pub fn check_request(request: Request) -> Checked
 
 // The band and the links: 4, then 2 where there is no link, then 5 link by link.
 fn check_ground(band: Band, links: [Link; 64], count: usize) -> Checked
-    ensures { λ r. ⌜ r ≡ then (checkBand band) (then (checkSomeLink count) (then (checkLinks 0 (take count links)) (checkLinkCount count))) ⌝ }
+    ensures { λ r. ⌜ r ≡ checkGround band count (take count links) ⌝ }
 {
     if band.allowed() {
         check_links(links, count)
@@ -56,7 +57,7 @@ fn check_ground(band: Band, links: [Link; 64], count: usize) -> Checked
 
 // The links one by one, each its count before its ends.
 fn check_links(links: [Link; 64], count: usize) -> Checked
-    ensures { λ r. ⌜ r ≡ then (checkSomeLink count) (then (checkLinks 0 (take count links)) (checkLinkCount count)) ⌝ }
+    ensures { λ r. ⌜ r ≡ checkAllLinks count (take count links) ⌝ }
 {
     if count == 0 {
         return Checked::Refused(Refusal::WrongTag(0));

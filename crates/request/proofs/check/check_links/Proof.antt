@@ -1,14 +1,15 @@
 -- `request::check::check_links` meets its contract. Assumes nothing.
+use Rattle.request.specs.StepsLaws.{no-link-refused, links-too-many, links-refused, links-pass}
+-- `request::check::check_links` meets its contract. Assumes nothing.
 use Prim.Native.Nat.{ℕ, _≤_, _-_, min}
 use mathlib.Core.Path.{_≡_, refl, sym, _∙_}
 use native.Mathlib.Omega.{arith}
 use borrow.Author.Needs.{needs}
 use lib.ListN.{length, getD, take, drop, length-take}
 use lib.Seq.{getD-take}
-use Rattle.refusal.specs.declared.Refusal.the-variants.{WrongTag, BadLink}
 use Rattle.request.specs.View.{linkAt, noLink}
-use Rattle.request.specs.Check.{then, checkSomeLink, checkLinks, checkLinkCount}
-use Rattle.request.specs.CheckLaws.{then-sound, then-refused, no-link, some-link, too-many-links, few-links, link-passes, link-refused, links-end}
+use Rattle.request.specs.Check.{checkLinks}
+use Rattle.request.specs.CheckLaws.{link-passes, link-refused, links-end}
 use Rattle.request.proofs.check.check_links.Statement.{statement}
 use Rattle.request.proofs.check.check_links.Tie as tie
 
@@ -22,7 +23,7 @@ abbrev μ-loop : tie.MeasureT-loop
 returns : tie.Need-returns Inv-loop μ-loop
 returns c =
     let count = c .before .args .count in
-    sym (then-refused (checkSomeLink count) (then (checkLinks 0 (take count (c .before .args .t1))) (checkLinkCount count)) (WrongTag 0) (no-link count (c .if1 .taken)))
+    sym (no-link-refused count (take count (c .before .args .t1)) (c .if1 .taken))
 
 loop-holds : tie.Need-loop-holds Inv-loop μ-loop
 loop-holds c = (search needs, search needs, refl)
@@ -35,12 +36,8 @@ returns-2 c =
     let k = c .before .before .loop .k in
     let whole : _≡_ {A = ℕ} (length (start .args .t1)) 64 = search needs in
     let size : length listed ≡ min count (length (start .args .t1)) = length-take count (start .args .t1) in
-    let some = some-link count (c .before .before .before .if1 .left) in
     let passed = c .before .before .loop .inv .2 in
-    sym
-    (then-sound (checkSomeLink count) (then (checkLinks 0 listed) (checkLinkCount count)) some ∙
-    (then-sound (checkLinks 0 listed) (checkLinkCount count) (passed ∙ links-end listed k (omega arith)) ∙
-    too-many-links count (omega arith)))
+    sym (links-too-many count listed (passed ∙ links-end listed k (omega arith)) (omega arith))
 
 mul-link : tie.Need-mul-link Inv-loop μ-loop
 mul-link c = search needs
@@ -57,13 +54,9 @@ returns-3 c =
     let k = c .before .before .before .before .before .loop .k in
     let whole : _≡_ {A = ℕ} (length (start .args .t1)) 64 = search needs in
     let size : length listed ≡ min count (length (start .args .t1)) = length-take count (start .args .t1) in
-    let some = some-link count (c .before .before .before .before .before .before .if1 .left) in
     let passed = c .before .before .before .before .before .loop .inv .2 in
     let same : linkAt listed k ≡ getD (start .args .t1) k noLink = getD-take count (start .args .t1) k noLink (omega arith) in
-    sym
-    (then-sound (checkSomeLink count) (then (checkLinks 0 listed) (checkLinkCount count)) some ∙
-    then-refused (checkLinks 0 listed) (checkLinkCount count) (BadLink k)
-    (passed ∙ link-refused listed k (omega arith) (rw same (c .if3 .taken))))
+    sym (links-refused count listed k (c .before .before .before .before .before .before .if1 .left) (passed ∙ link-refused listed k (omega arith) (rw same (c .if3 .taken))))
 
 add-k : tie.Need-add-k Inv-loop μ-loop
 add-k c = search needs
@@ -80,7 +73,6 @@ loop-again c =
     let k = c .before .before .before .before .before .loop .k in
     let whole : _≡_ {A = ℕ} (length (start .args .t1)) 64 = search needs in
     let size : length listed ≡ min count (length (start .args .t1)) = length-take count (start .args .t1) in
-    let some = some-link count (c .before .before .before .before .before .before .if1 .left) in
     let passed = c .before .before .before .before .before .loop .inv .2 in
     let same : linkAt listed k ≡ getD (start .args .t1) k noLink = getD-take count (start .args .t1) k noLink (omega arith) in
     (omega arith, omega arith, passed ∙ link-passes listed k (omega arith) (rw same (c .if3 .left)))
@@ -93,12 +85,8 @@ returns-4 c =
     let k = c .before .loop .k in
     let whole : _≡_ {A = ℕ} (length (start .args .t1)) 64 = search needs in
     let size : length listed ≡ min count (length (start .args .t1)) = length-take count (start .args .t1) in
-    let some = some-link count (c .before .before .if1 .left) in
     let passed = c .before .loop .inv .2 in
-    sym
-    (then-sound (checkSomeLink count) (then (checkLinks 0 listed) (checkLinkCount count)) some ∙
-    (then-sound (checkLinks 0 listed) (checkLinkCount count) (passed ∙ links-end listed k (omega arith)) ∙
-    few-links count (omega arith)))
+    sym (links-pass count listed (c .before .before .if1 .left) (passed ∙ links-end listed k (omega arith)) (omega arith))
 
 pub check-links-spec : {M : Type 1} → statement M
 check-links-spec =

@@ -1,0 +1,2 @@
+-- What proofs about requests share.
+pub mod Arrays

@@ -1,0 +1,205 @@
+-- The test says sound exactly for sound requests.
+use Prim.Native.Nat.{ℕ, zero, suc, _+_, _≤_, _<_}
+use mathlib.Core.Bool.{Bool, true, false, cond}
+use mathlib.Core.List.{List, [], _∷_, _++_, map, append-assoc, append-nil}
+use mathlib.Core.Logic.{_≢_}
+use mathlib.Core.Path.{_≡_, refl, sym, _∙_, ap}
+use native.Mathlib.Omega.{arith}
+use borrow.Author.Tests.{le-leb, eqb-false, ne-eqb, ltb-false}
+use lib.ListN.{length, take, getD, length-map, List·getD-map}
+use lib.Dec.{leb, ltb, eqb}
+use Rattle.refusal.specs.declared.Refusal.{Refusal}
+use Rattle.refusal.specs.declared.Refusal.the-variants.{WrongTag, WrongLength, BandOutside, BadLink, TooManyDemands, BadRoute, IdentUsed, BadWidth}
+use Rattle.grid.specs.Grid.{allowedBand}
+use Rattle.request.specs.declared.Link.{Link}
+use Rattle.request.specs.declared.Checked.the-variants.{Sound, Refused}
+use Rattle.request.specs.View.{DemandView, View, linkAt, demandAt, noDemand}
+use Rattle.request.specs.Check.{then, has, soundRoute, allowedWidth, allowedHops, checkBand, checkSomeLink, checkLinks, checkLinkCount, checkDemand, checkDemands, checkDemandCount, check}
+use Rattle.request.specs.Sound.{SoundDemand, SoundRequest}
+use Rattle.request.specs.Route.{RouteHolds}
+use Rattle.request.specs.Passes.{Passes}
+use Rattle.request.specs.Whole.{Counted}
+use Rattle.request.specs.TestLaws.{both}
+use Rattle.request.specs.RouteLaws.{none-early, early-none, sound-holds, holds-sound}
+use Rattle.request.specs.CheckLaws.{then-sound, first-sound, next-sound, band-passes, some-link, few-links, links-counted, few-demands, width-allowed, hops-allowed, demand-passes}
+
+-- a refusal is not sound
+refused-not-sound : {C : Type 0} (why : Refusal) → Refused why ≡ Sound → C
+refused-not-sound why h = absurd (let z : _≡_ {A = ℕ} 0 1 = cc in omega arith)
+
+-- a choice between refusal and sound that is sound had a test that failed
+not-refused : (b : Bool) (why : Refusal) → cond b (Refused why) Sound ≡ Sound → b ≡ false
+not-refused true why h = refused-not-sound why h
+not-refused false why h = refl
+
+-- a choice between sound and refusal that is sound had a test that held
+passed : (b : Bool) (why : Refusal) → cond b Sound (Refused why) ≡ Sound → b ≡ true
+passed true why h = refl
+passed false why h = refused-not-sound why h
+
+-- where the links pass, each is between two nodes
+links-two-nodes : (i : ℕ) (links : List Link) → checkLinks i links ≡ Sound → (k : ℕ) → k < length links →
+    linkAt links k .from ≢ linkAt links k .to
+unfolding checkLinks linkAt
+links-two-nodes i [] sound k h same = omega arith
+links-two-nodes i (l ∷ links) sound zero h same =
+    eqb-false (l .from) (l .to)
+    (not-refused (eqb (l .from) (l .to)) (BadLink i)
+    (first-sound (cond (eqb (l .from) (l .to)) (Refused (BadLink i)) Sound) (checkLinks (i + 1) links) sound)) same
+links-two-nodes i (l ∷ links) sound (suc k) h same =
+    links-two-nodes (i + 1) links
+    (next-sound (cond (eqb (l .from) (l .to)) (Refused (BadLink i)) Sound) (checkLinks (i + 1) links) sound) k (omega arith) same
+
+-- links that are each between two nodes pass
+two-nodes-pass : (i : ℕ) (links : List Link) → ((k : ℕ) → k < length links → linkAt links k .from ≢ linkAt links k .to) →
+    checkLinks i links ≡ Sound
+unfolding checkLinks linkAt
+two-nodes-pass i [] each = refl
+two-nodes-pass i (l ∷ links) each =
+    then-sound (cond (eqb (l .from) (l .to)) (Refused (BadLink i)) Sound) (checkLinks (i + 1) links)
+    (ap (λ (b : Bool). cond b (Refused (BadLink i)) Sound) (ne-eqb (l .from) (l .to) (each 0 (omega arith)))) ∙
+    two-nodes-pass (i + 1) links (λ (k : ℕ) (h : k < length links). each (suc k) (omega arith))
+
+-- the idents of demands
+abbrev identsOf : List DemandView → List ℕ
+identsOf demands = map (λ (d : DemandView). d .ident) demands
+
+-- a demand that is found sound has passed
+sound-passes : (S : ℕ) (links : List Link) (earlier : List ℕ) (i : ℕ) (d : DemandView) →
+    checkDemand S links earlier i d ≡ Sound → Passes S links earlier d
+unfolding checkDemand
+sound-passes S links earlier i d sound =
+    let ident = cond (has (d .ident) earlier) (Refused (IdentUsed i)) Sound in
+    let width = cond (allowedWidth S (d .width)) Sound (Refused (BadWidth i)) in
+    let hops = cond (allowedHops (d .hops)) Sound (Refused (WrongLength i)) in
+    let route = cond (soundRoute links (d .route)) Sound (Refused (BadRoute i)) in
+    let from-width : then width (then hops route) ≡ Sound = next-sound ident (then width (then hops route)) sound in
+    let from-hops : then hops route ≡ Sound = next-sound width (then hops route) from-width in
+    record {
+      ident-new = not-refused (has (d .ident) earlier) (IdentUsed i) (first-sound ident (then width (then hops route)) sound);
+      width-allowed = passed (allowedWidth S (d .width)) (BadWidth i) (first-sound width (then hops route) from-width);
+      hops-allowed = passed (allowedHops (d .hops)) (WrongLength i) (first-sound hops route from-hops);
+      route-sound = passed (soundRoute links (d .route)) (BadRoute i) (next-sound hops route from-hops);
+    }
+
+-- where the demands pass, each passes after the idents before it
+demands-each : (S : ℕ) (links : List Link) (earlier : List ℕ) (i : ℕ) (demands : List DemandView) →
+    checkDemands S links earlier i demands ≡ Sound → (k : ℕ) → k < length demands →
+    Passes S links (earlier ++ take k (identsOf demands)) (demandAt demands k)
+unfolding checkDemands demandAt
+demands-each S links earlier i [] sound k h = absurd (omega arith)
+demands-each S links earlier i (d ∷ demands) sound zero h =
+    rw (append-nil earlier)
+    (sound-passes S links earlier i d
+    (first-sound (checkDemand S links earlier i d) (checkDemands S links (earlier ++ (d .ident ∷ [])) (i + 1) demands) sound))
+demands-each S links earlier i (d ∷ demands) sound (suc k) h =
+    rw (append-assoc earlier (d .ident ∷ []) (take k (identsOf demands))) at
+    (demands-each S links (earlier ++ (d .ident ∷ [])) (i + 1) demands
+    (next-sound (checkDemand S links earlier i d) (checkDemands S links (earlier ++ (d .ident ∷ [])) (i + 1) demands) sound) k (omega arith))
+
+-- demands that each pass after the idents before them pass together
+each-demands : (S : ℕ) (links : List Link) (earlier : List ℕ) (i : ℕ) (demands : List DemandView) →
+    ((k : ℕ) → k < length demands → Passes S links (earlier ++ take k (identsOf demands)) (demandAt demands k)) →
+    checkDemands S links earlier i demands ≡ Sound
+unfolding checkDemands demandAt
+each-demands S links earlier i [] each = refl
+each-demands S links earlier i (d ∷ demands) each =
+    let here : Passes S links earlier d = rw (append-nil earlier) at (each 0 (omega arith)) in
+    then-sound (checkDemand S links earlier i d) (checkDemands S links (earlier ++ (d .ident ∷ [])) (i + 1) demands)
+    (demand-passes S links earlier i d (here .ident-new) (here .width-allowed) (here .hops-allowed) (here .route-sound)) ∙
+    each-demands S links (earlier ++ (d .ident ∷ [])) (i + 1) demands
+    (λ (k : ℕ) (h : k < length demands).
+    rw (append-assoc earlier (d .ident ∷ []) (take k (identsOf demands))) (each (suc k) (omega arith)))
+
+-- the ident at a position of the idents is the demand's there
+ident-at : (demands : List DemandView) (k : ℕ) → getD (identsOf demands) k 0 ≡ demandAt demands k .ident
+unfolding demandAt noDemand
+ident-at demands k = List·getD-map (λ (d : DemandView). d .ident) demands k noDemand
+
+-- a demand that passes is sound, if its route is as long as it says
+passes-sound : (S count : ℕ) (links : List Link) (earlier : List ℕ) (d : DemandView) → length links ≡ count →
+    (d .hops ≤ 32 → length (d .route) ≡ d .hops) → Passes S links earlier d → SoundDemand S count (linkAt links) d
+passes-sound S count links earlier d all routed pass =
+    let hops = hops-allowed (d .hops) (pass .hops-allowed) in
+    let width = width-allowed S (d .width) (pass .width-allowed) in
+    let size : length (d .route) ≡ d .hops = routed (hops .1) in
+    let holds : RouteHolds count (linkAt links) (d .route) (d .hops)
+    = rw (all, size) at (sound-holds links (d .route) (pass .route-sound)) in
+    record {
+      some-width = width .0;
+      width-in-band = width .1;
+      some-hop = hops .0;
+      at-most-32-hops = hops .1;
+      links-listed = holds .each-listed;
+      links-once = holds .none-twice;
+      no-break = holds .no-gap;
+    }
+
+-- a sound demand with a new ident passes, if its route is as long as it says
+sound-demand-passes : (S count : ℕ) (links : List Link) (earlier : List ℕ) (d : DemandView) → length links ≡ count →
+    (d .hops ≤ 32 → length (d .route) ≡ d .hops) → has (d .ident) earlier ≡ false → SoundDemand S count (linkAt links) d →
+    Passes S links earlier d
+unfolding allowedWidth allowedHops
+sound-demand-passes S count links earlier d all routed new sound =
+    let size : length (d .route) ≡ d .hops = routed (sound .at-most-32-hops) in
+    let holds : RouteHolds count (linkAt links) (d .route) (d .hops)
+    = record { each-listed = sound .links-listed; none-twice = sound .links-once; no-gap = sound .no-break } in
+    record {
+      ident-new = new;
+      width-allowed =
+          both (leb 1 (d .width)) (leb (d .width) S) (le-leb 1 (d .width) (sound .some-width)) (le-leb (d .width) S (sound .width-in-band));
+      hops-allowed =
+          both (leb 1 (d .hops)) (leb (d .hops) 32) (le-leb 1 (d .hops) (sound .some-hop)) (le-leb (d .hops) 32 (sound .at-most-32-hops));
+      route-sound = holds-sound links (d .route) (rw (all, size) holds);
+    }
+
+-- a request that the test finds sound is sound
+pub check-sound : (v : View) → Counted v → check v ≡ Sound → SoundRequest v
+unfolding check checkBand checkSomeLink checkDemandCount
+check-sound v counted sound =
+    let demands = checkDemands (v .band .slots) (v .links) [] 0 (v .demands) in
+    let number = checkDemandCount (v .demandCount) in
+    let from-some = next-sound (checkBand (v .band)) (then (checkSomeLink (v .linkCount)) (then (checkLinks 0 (v .links)) (then (checkLinkCount (v .linkCount)) (then demands number)))) sound in
+    let from-links = next-sound (checkSomeLink (v .linkCount)) (then (checkLinks 0 (v .links)) (then (checkLinkCount (v .linkCount)) (then demands number))) from-some in
+    let from-count = next-sound (checkLinks 0 (v .links)) (then (checkLinkCount (v .linkCount)) (then demands number)) from-links in
+    let from-demands = next-sound (checkLinkCount (v .linkCount)) (then demands number) from-count in
+    let few = links-counted (v .linkCount) (first-sound (checkLinkCount (v .linkCount)) (then demands number) from-count) in
+    let all = counted .links-counted few in
+    let some : v .linkCount ≢ 0 = eqb-false (v .linkCount) 0 (not-refused (eqb (v .linkCount) 0) (WrongTag 0) (first-sound (checkSomeLink (v .linkCount)) (then (checkLinks 0 (v .links)) (then (checkLinkCount (v .linkCount)) (then demands number))) from-some)) in
+    let few-demands = ltb-false 200 (v .demandCount) (not-refused (ltb 200 (v .demandCount)) (TooManyDemands 200) (next-sound demands number from-demands)) in
+    let all-demands = counted .demands-counted few-demands in
+    let each = demands-each (v .band .slots) (v .links) [] 0 (v .demands) (first-sound demands number from-demands) in
+    record {
+      band-allowed = passed (allowedBand (v .band)) (BandOutside 0) (first-sound (checkBand (v .band)) (then (checkSomeLink (v .linkCount)) (then (checkLinks 0 (v .links)) (then (checkLinkCount (v .linkCount)) (then demands number)))) sound);
+      some-link = omega arith;
+      at-most-64-links = few;
+      two-nodes = λ (k : ℕ) (h : k < v .linkCount). links-two-nodes 0 (v .links) (first-sound (checkLinks 0 (v .links)) (then (checkLinkCount (v .linkCount)) (then demands number)) from-links) k (omega arith);
+      at-most-200-demands = few-demands;
+      idents-once = λ (j k : ℕ) (jk : j < k) (h : k < v .demandCount) (same : demandAt (v .demands) j .ident ≡ demandAt (v .demands) k .ident).
+          early-none (demandAt (v .demands) k .ident) (identsOf (v .demands)) k (omega (arith, length-map (v .demands) (λ (d : DemandView). d .ident))) (each k (omega arith) .ident-new) j jk (sym same ∙ sym (ident-at (v .demands) j));
+      demands-sound = λ (k : ℕ) (h : k < v .demandCount).
+          passes-sound (v .band .slots) (v .linkCount) (v .links) (take k (identsOf (v .demands))) (demandAt (v .demands) k) all (counted .routes-counted k h) (each k (omega arith));
+    }
+
+-- the test finds a sound request sound
+pub sound-check : (v : View) → Counted v → SoundRequest v → check v ≡ Sound
+unfolding check
+sound-check v counted sound =
+    let demands = checkDemands (v .band .slots) (v .links) [] 0 (v .demands) in
+    let number = checkDemandCount (v .demandCount) in
+    let all = counted .links-counted (sound .at-most-64-links) in
+    let all-demands = counted .demands-counted (sound .at-most-200-demands) in
+    then-sound (checkBand (v .band)) (then (checkSomeLink (v .linkCount)) (then (checkLinks 0 (v .links)) (then (checkLinkCount (v .linkCount)) (then demands number)))) (band-passes (v .band) (sound .band-allowed)) ∙
+    (then-sound (checkSomeLink (v .linkCount)) (then (checkLinks 0 (v .links)) (then (checkLinkCount (v .linkCount)) (then demands number))) (some-link (v .linkCount) (λ (z : v .linkCount ≡ 0). omega (arith, sound .some-link))) ∙
+    (then-sound (checkLinks 0 (v .links)) (then (checkLinkCount (v .linkCount)) (then demands number)) (two-nodes-pass 0 (v .links) (λ (k : ℕ) (h : k < length (v .links)). sound .two-nodes k (omega arith))) ∙
+    (then-sound (checkLinkCount (v .linkCount)) (then demands number) (few-links (v .linkCount) (sound .at-most-64-links)) ∙
+    (then-sound demands number
+    (each-demands (v .band .slots) (v .links) [] 0 (v .demands)
+    (λ (k : ℕ) (h : k < length (v .demands)).
+    let within : k < v .demandCount = omega arith in
+    sound-demand-passes (v .band .slots) (v .linkCount) (v .links) (take k (identsOf (v .demands))) (demandAt (v .demands) k) all (counted .routes-counted k within)
+    (none-early (demandAt (v .demands) k .ident) (identsOf (v .demands)) k (omega (arith, length-map (v .demands) (λ (d : DemandView). d .ident)))
+    (λ (j : ℕ) (jk : j < k) (same : demandAt (v .demands) k .ident ≡ getD (identsOf (v .demands)) j 0).
+    sound .idents-once j k jk within (sym (same ∙ ident-at (v .demands) j))))
+    (sound .demands-sound k within))) ∙
+    few-demands (v .demandCount) (sound .at-most-200-demands)))))
