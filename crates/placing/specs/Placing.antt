@@ -1,8 +1,9 @@
 -- A request as a problem of placing: who is how wide, who shares a link with whom, which gap is kept; and the bound.
 use Prim.Native.Nat.{ℕ, zero, suc, _+_, _-_, _*_, max}
 use mathlib.Core.Bool.{Bool, true, false, cond, _||_}
-use mathlib.Core.List.{List, [], _∷_}
+use mathlib.Core.List.{List, [], _∷_, map}
 use Rattle.theory.specs.Problem.{Problem}
+use Rattle.theory.specs.Orders.{listing}
 use Rattle.request.specs.View.{DemandView, View, demandAt}
 use Rattle.request.specs.Check.{has}
 
@@ -49,3 +50,13 @@ boundOver v (suc n) = max (boundOver v n) (linkBound v n)
 unfoldable pub boundOf : View → ℕ
 unfolding boundOver
 boundOf v = boundOver v (v .linkCount)
+
+-- which of the first twenty demands share a link with demand i
+unfoldable pub meetingRow : View → ℕ → List Bool
+unfolding problemOf listing
+meetingRow v i = map (λ (j : ℕ). problemOf v .joined i j) (listing 20)
+
+-- which of the first twenty demands share a link: a row of twenty for each of the twenty
+unfoldable pub meetingTable : View → List (List Bool)
+unfolding meetingRow
+meetingTable v = map (meetingRow v) (listing 20)
