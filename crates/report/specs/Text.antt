@@ -1,6 +1,6 @@
 -- Text as bytes: numbers in decimal, and a page of text.
 use Prim.Native.Nat.{ℕ, zero, suc, _+_, _/_, _%_}
-use mathlib.Core.Bool.{Bool, cond}
+use mathlib.Core.Bool.{cond}
 use mathlib.Core.List.{List, [], _∷_, _++_}
 use lib.ListN.{length, replicate}
 use lib.IntN.{ℤ, pos, negsuc}
@@ -36,5 +36,4 @@ appended page text = record { bytes = sets (page .bytes) (page .len) text; len =
 
 -- the page that holds a text
 unfoldable pub pageOf : List ℕ → Page
-unfolding appended emptyPage
 pageOf text = appended emptyPage text

@@ -1,6 +1,5 @@
 -- Laws of decimal numbers and of pages.
-use Prim.Native.Nat.{ℕ, zero, suc, _+_, _/_, _%_, _≤_, _<_}
-use mathlib.Core.Bool.{Bool, true, false, cond}
+use Prim.Native.Nat.{ℕ, zero, suc, _+_, _/_, _%_, _^_, _≤_, _<_}
 use mathlib.Core.List.{List, [], _∷_, _++_}
 use mathlib.Core.Path.{_≡_, refl, ap, ap₂, _∙_}
 use native.Mathlib.Omega.{arith}
@@ -45,14 +44,33 @@ decimal-small-length n h = ap length (decimal-small n h)
 pub decimal-large-length : (n : ℕ) → 10 ≤ n → length (decimal n) ≡ length (decimal (n / 10)) + 1
 decimal-large-length n h = ap length (decimal-large n h) ∙ length-append (decimal (n / 10)) ((48 + n % 10) ∷ [])
 
+-- a number below a power of ten has no more digits than that power has noughts
+pub decimal-digits : (more n : ℕ) → n < 10 ^ suc more → length (decimal n) ≤ suc more
+decimal-digits zero n h = omega (arith, decimal-small-length n (omega arith))
+decimal-digits (suc more) n h =
+    by-test (ltb n 10)
+    (λ t. omega (arith, decimal-small-length n (ltb-true n 10 t)))
+    (λ f. omega (arith, decimal-large-length n (ltb-false n 10 f), decimal-digits more (n / 10) (omega arith)))
+
 -- text behind text is the two texts in one
 sets-sets : (l : List ℕ) (i : ℕ) (a b : List ℕ) → sets (sets l i a) (i + length a) b ≡ sets l i (a ++ b)
 sets-sets l i [] b = ap (λ (n : ℕ). sets l n b) (omega arith)
 sets-sets l i (x ∷ a) b =
     ap (λ (n : ℕ). sets (sets (set l i x) (suc i) a) n b) (omega arith) ∙ sets-sets (set l i x) (suc i) a b
 
+-- a page is longer by the text that came to it
+pub appended-length : (page : Page) (text : List ℕ) → appended page text .len ≡ page .len + length text
+unfolding appended
+appended-length page text = refl
+
+-- two texts, one behind the other, come to a page as one
 pub appended-twice : (page : Page) (a b : List ℕ) → appended (appended page a) b ≡ appended page (a ++ b)
 unfolding appended
 appended-twice page a b =
     ap₂ (λ (l : List ℕ) (n : ℕ). record { bytes = l; len = n })
     (sets-sets (page .bytes) (page .len) a b) (rw length-append (omega arith))
+
+-- an empty text changes nothing
+pub appended-none : (page : Page) → appended page [] ≡ page
+unfolding appended
+appended-none page = ap (λ (n : ℕ). record { bytes = page .bytes; len = n }) (omega arith)

@@ -1,9 +1,13 @@
 // What is printed, made of proved functions on bytes.
 ghost use mathlib.Core.Path.{_≡_};
+ghost use mathlib.Core.Bool.{true};
 ghost use Prim.Native.Nat.{_+_, _≤_, _<_};
 ghost use mathlib.Core.List.{List, [], _∷_};
 ghost use lib.ListN.{length};
-ghost use Rattle.report.specs.Text.{decimal, decimalSigned, emptyPage, appended};
+ghost use lib.IntN.{pos, natAbs};
+ghost use lib.Signed.{ltZ, mag};
+ghost use Rattle.report.specs.Text.{decimal, decimalSigned, emptyPage, appended, pageOf};
+ghost use Rattle.report.specs.Lines.{named, namedSigned, answerLine, rowLine, refusedLine};
 
 // A page of text: the first `len` bytes count, the others are 0.
 pub struct Page {
@@ -48,4 +52,95 @@ fn put_number(page: Page, n: u64) -> Page
     } else {
         put_byte(put_number(page, n / 10), last)
     }
+}
+
+// The page with some bytes more.
+fn put_text(page: Page, text: &[u8]) -> Page
+    requires { ⌜ page .len + length (now text) ≤ 1024 ⌝ }
+    ensures { λ r. ⌜ r ≡ appended page (now (text .entry)) ⌝ }
+    ensures { λ r. ⌜ r .len ≡ page .len + length (now (text .entry)) ⌝ }
+{
+    let mut next = page;
+    let mut i = 0;
+    while i < text.len() {
+        next = put_byte(next, text[i]);
+        i += 1;
+    }
+    next
+}
+
+// How far a negative number is below 0.
+fn below_zero(n: i64) -> u64
+    requires { ⌜ ltZ n (pos 0) ≡ true ⌝ }
+    ensures { λ r. ⌜ r ≡ natAbs n ⌝ }
+{
+    (-1 - n) as u64 + 1
+}
+
+// The page with a signed number more, in decimal.
+fn put_signed(page: Page, n: i64) -> Page
+    requires { ⌜ page .len + length (decimalSigned n) ≤ 1024 ⌝ }
+    ensures { λ r. ⌜ r ≡ appended page (decimalSigned n) ⌝ }
+{
+    if n < 0 {
+        put_number(put_byte(page, 45), below_zero(n))
+    } else {
+        put_number(page, n as u64)
+    }
+}
+
+// The page with a name and its number more. No number has more than 20 digits.
+fn put_named(page: Page, name: &[u8], n: u64) -> Page
+    requires { ⌜ page .len + length (now name) + 20 ≤ 1024 ⌝ }
+    ensures { λ r. ⌜ r ≡ appended page (named (now (name .entry)) n) ⌝ }
+    ensures { λ r. ⌜ r .len ≤ page .len + length (now (name .entry)) + 20 ⌝ }
+{
+    put_number(put_text(page, name), n)
+}
+
+// The page with a name and its signed number more.
+fn put_named_signed(page: Page, name: &[u8], z: i64) -> Page
+    requires { ⌜ page .len + length (now name) + length (decimalSigned z) ≤ 1024 ⌝ }
+    ensures { λ r. ⌜ r ≡ appended page (namedSigned (now (name .entry)) z) ⌝ }
+{
+    put_signed(put_text(page, name), z)
+}
+
+// The first line of an answer, on a page of its own. No word has more than 10 letters.
+fn answer_line(word: &[u8], end: u64, bound: u64, steps: u64, reached: u64, ruled: u64) -> Page
+    requires { ⌜ length (now word) ≤ 10 ⌝ }
+    ensures { λ r. ⌜ r ≡ pageOf (answerLine (now (word .entry)) end bound steps reached ruled) ⌝ }
+    ensures { λ r. ⌜ r .len ≤ 146 ⌝ }
+{
+    let mut page = put_text(Page::empty(), word);
+    page = put_named(page, b" end ", end);
+    page = put_named(page, b" bound ", bound);
+    page = put_named(page, b" steps ", steps);
+    page = put_named(page, b" reached ", reached);
+    page = put_named(page, b" ruled ", ruled);
+    put_byte(page, b'\n')
+}
+
+// The line of a refusal, on a page of its own.
+fn refused_line(number: u64, place: u64) -> Page
+    ensures { λ r. ⌜ r ≡ pageOf (refusedLine number place) ⌝ }
+{
+    let mut page = put_text(Page::empty(), b"refused");
+    page = put_named(page, b" ", number);
+    page = put_named(page, b" ", place);
+    put_byte(page, b'\n')
+}
+
+// The page with a demand's row more.
+fn put_row_line(page: Page, ident: u16, start: u16, end: u32, n: i64, mhz: i64) -> Page
+    requires { ⌜ page .len + 39 ≤ 1024 ⌝ }
+    requires { ⌜ (end < 1000000) × (mag n < 999999) × (mag mhz < 9999999999) ⌝ }
+    ensures { λ r. ⌜ r ≡ appended page (rowLine ident start end n mhz) ⌝ }
+{
+    let mut next = put_number(page, ident as u64);
+    next = put_named(next, b" ", start as u64);
+    next = put_named(next, b" ", end as u64);
+    next = put_named_signed(next, b" ", n);
+    next = put_named_signed(next, b" ", mhz);
+    put_byte(next, b'\n')
 }
