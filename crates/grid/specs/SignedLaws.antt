@@ -25,7 +25,7 @@ mag-apart : (a b : ℕ) → mag (subℕ a b) ≤ a + b
 mag-apart a b = mag-either (ltb a b) (b - suc a) (a - b) (a + b) (omega arith) (omega arith)
 
 -- the size of a sum
-mag-sum : (a b : ℤ) → mag (a +ℤ b) ≤ mag a + mag b + 1
+pub mag-sum : (a b : ℤ) → mag (a +ℤ b) ≤ mag a + mag b + 1
 mag-sum (pos a) (pos b) = omega arith
 mag-sum (pos a) (negsuc b) = omega (arith, mag-apart a (suc b))
 mag-sum (negsuc a) (pos b) = omega (arith, mag-apart b (suc a))
@@ -42,7 +42,7 @@ mag-difference : (a b : ℤ) → mag (a -ℤ b) ≤ mag a + mag b + 2
 mag-difference a b = omega (arith, mag-sum a (negℤ b), mag-minus b)
 
 -- the size of a product with 6250
-mag-6250 : (a : ℤ) → mag (pos 6250 *ℤ a) ≤ 6250 * mag a + 6251
+pub mag-6250 : (a : ℤ) → mag (pos 6250 *ℤ a) ≤ 6250 * mag a + 6251
 mag-6250 (pos a) = omega arith
 mag-6250 (negsuc a) = omega (arith, mag-minus (pos (6250 * suc a)))
 

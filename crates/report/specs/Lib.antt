@@ -4,3 +4,5 @@ pub mod TextLaws
 pub mod Lines
 pub mod LinesLaws
 pub mod SignedLaws
+pub mod Rows
+pub mod RowsLaws

@@ -1,4 +1,9 @@
 // What is printed, made of proved functions on bytes.
+use grid::Band;
+use grid::FrequencyReply;
+use grid::to_frequency;
+use request::Demand;
+use request::Request;
 ghost use mathlib.Core.Path.{_≡_};
 ghost use mathlib.Core.Bool.{true};
 ghost use Prim.Native.Nat.{_+_, _≤_, _<_};
@@ -7,7 +12,9 @@ ghost use lib.ListN.{length};
 ghost use lib.IntN.{pos, natAbs};
 ghost use lib.Signed.{ltZ, mag};
 ghost use Rattle.report.specs.Text.{decimal, decimalSigned, emptyPage, appended, pageOf};
+ghost use Rattle.request.specs.View.{view, viewDemand};
 ghost use Rattle.report.specs.Lines.{named, namedSigned, answerLine, rowLine, refusedLine};
+ghost use Rattle.report.specs.Rows.{demandRow, rows};
 
 // A page of text: the first `len` bytes count, the others are 0.
 pub struct Page {
@@ -143,4 +150,44 @@ fn put_row_line(page: Page, ident: u16, start: u16, end: u32, n: i64, mhz: i64) 
     next = put_named_signed(next, b" ", n);
     next = put_named_signed(next, b" ", mhz);
     put_byte(next, b'\n')
+}
+
+// The page with the row of a demand that starts here. A start that the band does not have gives no row.
+fn put_row(page: Page, band: Band, demand: Demand, start: u16) -> Page
+    requires { ⌜ page .len + 39 ≤ 1024 ⌝ }
+    ensures { λ r. ⌜ r ≡ appended page (demandRow band (viewDemand demand) start) ⌝ }
+    ensures { λ r. ⌜ r .len ≤ page .len + 39 ⌝ }
+{
+    let ident = demand.ident;
+    let width = demand.width;
+    let end = start as u32 + width as u32;
+    match to_frequency(band, start, width) {
+        FrequencyReply::Centred(centre) => put_row_line(
+            page,
+            ident,
+            start,
+            end,
+            centre.n as i64,
+            centre.mhz,
+        ),
+        FrequencyReply::Refused(_) => page,
+    }
+}
+
+// The page with a row for each demand more, in listing order.
+fn put_rows(page: Page, request: Request, starts: [u16; 20]) -> Page
+    requires { ⌜ page .len + 780 ≤ 1024 ⌝ }
+    requires { ⌜ request .«demand_count» ≤ 20 ⌝ }
+    ensures { λ r. ⌜ r ≡ appended page (rows (request .band) (view request .demands) starts) ⌝ }
+{
+    let band = request.band;
+    let count = request.demand_count;
+    let mut next = page;
+    let mut k = 0;
+    while k < count {
+        let demand = request.demands[k];
+        next = put_row(next, band, demand, starts[k]);
+        k += 1;
+    }
+    next
 }
