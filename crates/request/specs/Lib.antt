@@ -13,3 +13,12 @@ pub mod StepsLaws
 pub mod Whole
 pub mod Passes
 pub mod SoundLaws
+pub mod Reading
+pub mod Packing
+pub mod Writing
+pub mod SignedLaws
+pub mod ReadingLaws
+pub mod PackingLaws
+pub mod LinksLaws
+pub mod DemandsLaws
+pub mod FileLaws

@@ -3,9 +3,12 @@ use grid::Band;
 use refusal::Refusal;
 
 mod check;
+mod read;
 mod route;
 
 pub use check::check_request;
+pub use read::empty_request;
+pub use read::read_request;
 
 // A directed link from one node to another.
 pub struct Link {
@@ -37,7 +40,22 @@ pub enum Checked {
     Refused(Refusal),
 }
 
+// What reading a file gives: the request in it; or why it is refused, and the empty request.
+pub struct Reading {
+    pub verdict: Checked,
+    pub request: Request,
+}
+
+// How many bytes were written, or why none.
+pub enum Written {
+    Wrote(usize),
+    Refused(Refusal),
+}
+
 impl Request {
+    // The longest file of a request.
+    pub const MOST_BYTES: usize = 8128;
+
     pub const MOST_LINKS: usize = 64;
 
     pub const MOST_DEMANDS: usize = 200;

@@ -1,0 +1,13 @@
+-- `request::read::no_links` meets its contract. Assumes nothing.
+use mathlib.Core.Path.{refl}
+use Rattle.request.specs.View.{noLink}
+use Rattle.request.specs.Packing.{packLinks}
+use Rattle.request.proofs.read.no_links.Statement.{statement}
+use Rattle.request.proofs.read.no_links.Tie as tie
+
+returns : tie.Need-returns
+unfolding packLinks noLink
+returns c = refl
+
+pub no-links-spec : {M : Type 1} → statement M
+no-links-spec = tie.close (tie.spec returns)

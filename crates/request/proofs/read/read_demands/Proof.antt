@@ -1,0 +1,148 @@
+-- `request::read::read_demands` meets its contract. Assumes nothing.
+use Prim.Native.Nat.{_-_}
+use mathlib.Core.Path.{sym, subst, _∙_}
+use native.Mathlib.Omega.{arith}
+use borrow.Author.Needs.{needs}
+use denote.Ref.{now}
+use lib.ListN.{length, take, replicate}
+use Rattle.request.specs.DemandsLaws.{used-room, DemandsSoFar, demands-begin, demands-finish, demands-fail, demands-step, field-first, demand-here, demand-room, read-short, used-length}
+use Rattle.request.specs.declared.Demand.{Demand}
+use Rattle.request.proofs.read.read_demands.Statement.{statement}
+use Rattle.request.proofs.read.read_demands.Tie as tie
+
+abbrev Inv-loop : tie.InvT-loop
+Inv-loop file start slots links link-count demands₀ idents₀ count₀ at₀ demands idents count at = DemandsSoFar slots (take link-count links) file start at count demands idents
+
+abbrev μ-loop : tie.MeasureT-loop
+μ-loop file start slots links link-count demands₀ idents₀ count₀ at₀ demands idents count at = length file - at
+
+empty-demand-requires : tie.Need-empty-demand-requires Inv-loop μ-loop
+empty-demand-requires c κs = search needs
+
+loop-holds : tie.Need-loop-holds Inv-loop μ-loop
+loop-holds c =
+    subst (λ (d : Demand). DemandsSoFar (c .before .before .args .slots) (take (c .before .before .args .link-count) (c .before .before .args .links)) (now (c .before .before .args .file)) (c .before .before .args .start) (c .before .before .args .start) 0 (replicate 200 d) (replicate 200 0))
+    (sym (c .empty-demand .ensures)) (demands-begin (c .before .before .args .slots) (take (c .before .before .args .link-count) (c .before .before .args .links)) (now (c .before .before .args .file)) (c .before .before .args .start) (c .before .before .pre .0))
+
+check-field-requires : tie.Need-check-field-requires Inv-loop μ-loop
+check-field-requires c κs = c .before .loop .inv .within
+
+enum-known-header : tie.Need-enum-known-header Inv-loop μ-loop
+enum-known-header c = search needs
+
+no-demands-requires : tie.Need-no-demands-requires Inv-loop μ-loop
+no-demands-requires c κs = search needs
+
+returns : tie.Need-returns Inv-loop μ-loop
+returns c =
+    c .no-demands .ensures ∙
+    demands-fail (c .before .before .before .before .before .before .before .before .before .args .slots) (take (c .before .before .before .before .before .before .before .before .before .args .link-count) (c .before .before .before .before .before .before .before .before .before .args .links)) (now (c .before .before .before .before .before .before .before .before .before .args .file)) (c .before .before .before .before .before .before .before .before .before .args .start) (c .before .before .before .before .before .before .loop .at) (c .before .before .before .before .before .before .loop .count) (c .before .before .before .before .before .before .loop .demands) (c .before .before .before .before .before .before .loop .idents) (c .before .before .before .before .before .before .loop .inv) (λ done. omega arith)
+    (field-first (c .before .before .before .before .before .before .before .before .before .args .slots) (take (c .before .before .before .before .before .before .before .before .before .args .link-count) (c .before .before .before .before .before .before .before .before .before .args .links)) (now (c .before .before .before .before .before .before .before .before .before .args .file)) (c .before .before .before .before .before .before .loop .at) (take (c .before .before .before .before .before .before .loop .count) (c .before .before .before .before .before .before .loop .idents)) (sym (c .before .before .header .given .1) ∙ c .before .before .before .before .check-field .ensures))
+
+enum-told : tie.Need-enum-told Inv-loop μ-loop
+enum-told c = search needs
+
+demand-in-requires : tie.Need-demand-in-requires Inv-loop μ-loop
+demand-in-requires c κs = sym (c .before .before .check-field .ensures) ∙ c .enum-told .given .1
+
+array-share-prefix-idents : tie.Need-array-share-prefix-idents Inv-loop μ-loop
+array-share-prefix-idents c = used-room (c .before .before .before .before .before .before .before .before .args .slots) (take (c .before .before .before .before .before .before .before .before .args .link-count) (c .before .before .before .before .before .before .before .before .args .links)) (now (c .before .before .before .before .before .before .before .before .args .file)) (c .before .before .before .before .before .before .before .before .args .start) (c .before .before .before .before .before .loop .at) (c .before .before .before .before .before .loop .count) (c .before .before .before .before .before .loop .demands) (c .before .before .before .before .before .loop .idents) (c .before .before .before .before .before .loop .inv)
+
+slice-aggregate-check-new-demand : tie.Need-slice-aggregate-check-new-demand Inv-loop μ-loop
+slice-aggregate-check-new-demand c = sym (used-length (c .before .before .before .before .before .before .before .before .before .args .slots) (take (c .before .before .before .before .before .before .before .before .before .args .link-count) (c .before .before .before .before .before .before .before .before .before .args .links)) (now (c .before .before .before .before .before .before .before .before .before .args .file)) (c .before .before .before .before .before .before .before .before .before .args .start) (c .before .before .before .before .before .before .loop .at) (c .before .before .before .before .before .before .loop .count) (c .before .before .before .before .before .before .loop .demands) (c .before .before .before .before .before .before .loop .idents) (c .before .before .before .before .before .before .loop .inv))
+
+check-new-demand-requires : tie.Need-check-new-demand-requires Inv-loop μ-loop
+check-new-demand-requires c κs = (read-short (c .before .before .before .before .before .before .before .before .before .args .slots) (take (c .before .before .before .before .before .before .before .before .before .args .link-count) (c .before .before .before .before .before .before .before .before .before .args .links)) (now (c .before .before .before .before .before .before .before .before .before .args .file)) (c .before .before .before .before .before .before .before .before .before .args .start) (c .before .before .before .before .before .before .loop .at) (c .before .before .before .before .before .before .loop .count) (c .before .before .before .before .before .before .loop .demands) (c .before .before .before .before .before .before .loop .idents) (c .before .before .before .before .before .before .loop .inv) (c .before .demand-in .result) (c .before .demand-in .ensures) (sym (c .before .before .enum-told .given .1) ∙ c .before .before .before .before .check-field .ensures), c .before .before .before .before .before .before .before .before .before .pre .1)
+
+enum-known-answer : tie.Need-enum-known-answer Inv-loop μ-loop
+enum-known-answer c = search needs
+
+no-demands-requires-2 : tie.Need-no-demands-requires-2 Inv-loop μ-loop
+no-demands-requires-2 c κs = search needs
+
+returns-2 : tie.Need-returns-2 Inv-loop μ-loop
+returns-2 c =
+    c .no-demands2 .ensures ∙
+    demands-fail (c .before .before .before .before .before .before .before .before .before .before .before .before .before .before .args .slots) (take (c .before .before .before .before .before .before .before .before .before .before .before .before .before .before .args .link-count) (c .before .before .before .before .before .before .before .before .before .before .before .before .before .before .args .links)) (now (c .before .before .before .before .before .before .before .before .before .before .before .before .before .before .args .file)) (c .before .before .before .before .before .before .before .before .before .before .before .before .before .before .args .start) (c .before .before .before .before .before .before .before .before .before .before .before .loop .at) (c .before .before .before .before .before .before .before .before .before .before .before .loop .count) (c .before .before .before .before .before .before .before .before .before .before .before .loop .demands) (c .before .before .before .before .before .before .before .before .before .before .before .loop .idents) (c .before .before .before .before .before .before .before .before .before .before .before .loop .inv) (λ done. omega arith)
+    (demand-here (c .before .before .before .before .before .before .before .before .before .before .before .before .before .before .args .slots) (take (c .before .before .before .before .before .before .before .before .before .before .before .before .before .before .args .link-count) (c .before .before .before .before .before .before .before .before .before .before .before .before .before .before .args .links)) (now (c .before .before .before .before .before .before .before .before .before .before .before .before .before .before .args .file)) (c .before .before .before .before .before .before .before .before .before .before .before .before .before .before .args .start) (c .before .before .before .before .before .before .before .before .before .before .before .loop .at) (c .before .before .before .before .before .before .before .before .before .before .before .loop .count) (c .before .before .before .before .before .before .before .before .before .before .before .loop .demands) (c .before .before .before .before .before .before .before .before .before .before .before .loop .idents) (c .before .before .before .before .before .before .before .before .before .before .before .loop .inv) (c .before .before .before .before .before .before .demand-in .result) (c .before .before .before .before .before .before .demand-in .ensures) (sym (c .before .before .before .before .before .before .before .enum-told .given .1) ∙ c .before .before .before .before .before .before .before .before .before .check-field .ensures) (sym (c .before .before .answer .given .1) ∙ c .before .before .before .before .check-new-demand .ensures))
+
+enum-told-2 : tie.Need-enum-told-2 Inv-loop μ-loop
+enum-told-2 c = search needs
+
+mul-demands : tie.Need-mul-demands Inv-loop μ-loop
+mul-demands c =
+    let room = demand-room (c .before .before .before .before .before .before .before .before .before .before .before .before .args .slots) (take (c .before .before .before .before .before .before .before .before .before .before .before .before .args .link-count) (c .before .before .before .before .before .before .before .before .before .before .before .before .args .links)) (now (c .before .before .before .before .before .before .before .before .before .before .before .before .args .file)) (c .before .before .before .before .before .before .before .before .before .before .before .before .args .start) (c .before .before .before .before .before .before .before .before .before .loop .at) (c .before .before .before .before .before .before .before .before .before .loop .count) (c .before .before .before .before .before .before .before .before .before .loop .demands) (c .before .before .before .before .before .before .before .before .before .loop .idents) (c .before .before .before .before .before .before .before .before .before .loop .inv) (demand-here (c .before .before .before .before .before .before .before .before .before .before .before .before .args .slots) (take (c .before .before .before .before .before .before .before .before .before .before .before .before .args .link-count) (c .before .before .before .before .before .before .before .before .before .before .before .before .args .links)) (now (c .before .before .before .before .before .before .before .before .before .before .before .before .args .file)) (c .before .before .before .before .before .before .before .before .before .before .before .before .args .start) (c .before .before .before .before .before .before .before .before .before .loop .at) (c .before .before .before .before .before .before .before .before .before .loop .count) (c .before .before .before .before .before .before .before .before .before .loop .demands) (c .before .before .before .before .before .before .before .before .before .loop .idents) (c .before .before .before .before .before .before .before .before .before .loop .inv) (c .before .before .before .before .demand-in .result) (c .before .before .before .before .demand-in .ensures) (sym (c .before .before .before .before .before .enum-told .given .1) ∙ c .before .before .before .before .before .before .before .check-field .ensures) (sym (c .enum-told2 .given .1) ∙ c .before .before .check-new-demand .ensures)) in
+    omega arith
+
+array-set-from-demands : tie.Need-array-set-from-demands Inv-loop μ-loop
+array-set-from-demands c =
+    let room = demand-room (c .before .before .before .before .before .before .before .before .before .before .before .before .args .slots) (take (c .before .before .before .before .before .before .before .before .before .before .before .before .args .link-count) (c .before .before .before .before .before .before .before .before .before .before .before .before .args .links)) (now (c .before .before .before .before .before .before .before .before .before .before .before .before .args .file)) (c .before .before .before .before .before .before .before .before .before .before .before .before .args .start) (c .before .before .before .before .before .before .before .before .before .loop .at) (c .before .before .before .before .before .before .before .before .before .loop .count) (c .before .before .before .before .before .before .before .before .before .loop .demands) (c .before .before .before .before .before .before .before .before .before .loop .idents) (c .before .before .before .before .before .before .before .before .before .loop .inv) (demand-here (c .before .before .before .before .before .before .before .before .before .before .before .before .args .slots) (take (c .before .before .before .before .before .before .before .before .before .before .before .before .args .link-count) (c .before .before .before .before .before .before .before .before .before .before .before .before .args .links)) (now (c .before .before .before .before .before .before .before .before .before .before .before .before .args .file)) (c .before .before .before .before .before .before .before .before .before .before .before .before .args .start) (c .before .before .before .before .before .before .before .before .before .loop .at) (c .before .before .before .before .before .before .before .before .before .loop .count) (c .before .before .before .before .before .before .before .before .before .loop .demands) (c .before .before .before .before .before .before .before .before .before .loop .idents) (c .before .before .before .before .before .before .before .before .before .loop .inv) (c .before .before .before .before .demand-in .result) (c .before .before .before .before .demand-in .ensures) (sym (c .before .before .before .before .before .enum-told .given .1) ∙ c .before .before .before .before .before .before .before .check-field .ensures) (sym (c .enum-told2 .given .1) ∙ c .before .before .check-new-demand .ensures)) in
+    omega arith
+
+mul-idents : tie.Need-mul-idents Inv-loop μ-loop
+mul-idents c =
+    let room = demand-room (c .before .before .before .before .before .before .before .before .before .before .before .before .args .slots) (take (c .before .before .before .before .before .before .before .before .before .before .before .before .args .link-count) (c .before .before .before .before .before .before .before .before .before .before .before .before .args .links)) (now (c .before .before .before .before .before .before .before .before .before .before .before .before .args .file)) (c .before .before .before .before .before .before .before .before .before .before .before .before .args .start) (c .before .before .before .before .before .before .before .before .before .loop .at) (c .before .before .before .before .before .before .before .before .before .loop .count) (c .before .before .before .before .before .before .before .before .before .loop .demands) (c .before .before .before .before .before .before .before .before .before .loop .idents) (c .before .before .before .before .before .before .before .before .before .loop .inv) (demand-here (c .before .before .before .before .before .before .before .before .before .before .before .before .args .slots) (take (c .before .before .before .before .before .before .before .before .before .before .before .before .args .link-count) (c .before .before .before .before .before .before .before .before .before .before .before .before .args .links)) (now (c .before .before .before .before .before .before .before .before .before .before .before .before .args .file)) (c .before .before .before .before .before .before .before .before .before .before .before .before .args .start) (c .before .before .before .before .before .before .before .before .before .loop .at) (c .before .before .before .before .before .before .before .before .before .loop .count) (c .before .before .before .before .before .before .before .before .before .loop .demands) (c .before .before .before .before .before .before .before .before .before .loop .idents) (c .before .before .before .before .before .before .before .before .before .loop .inv) (c .before .before .before .before .demand-in .result) (c .before .before .before .before .demand-in .ensures) (sym (c .before .before .before .before .before .enum-told .given .1) ∙ c .before .before .before .before .before .before .before .check-field .ensures) (sym (c .enum-told2 .given .1) ∙ c .before .before .check-new-demand .ensures)) in
+    omega arith
+
+array-write-idents : tie.Need-array-write-idents Inv-loop μ-loop
+array-write-idents c =
+    let room = demand-room (c .before .before .before .before .before .before .before .before .before .before .before .before .args .slots) (take (c .before .before .before .before .before .before .before .before .before .before .before .before .args .link-count) (c .before .before .before .before .before .before .before .before .before .before .before .before .args .links)) (now (c .before .before .before .before .before .before .before .before .before .before .before .before .args .file)) (c .before .before .before .before .before .before .before .before .before .before .before .before .args .start) (c .before .before .before .before .before .before .before .before .before .loop .at) (c .before .before .before .before .before .before .before .before .before .loop .count) (c .before .before .before .before .before .before .before .before .before .loop .demands) (c .before .before .before .before .before .before .before .before .before .loop .idents) (c .before .before .before .before .before .before .before .before .before .loop .inv) (demand-here (c .before .before .before .before .before .before .before .before .before .before .before .before .args .slots) (take (c .before .before .before .before .before .before .before .before .before .before .before .before .args .link-count) (c .before .before .before .before .before .before .before .before .before .before .before .before .args .links)) (now (c .before .before .before .before .before .before .before .before .before .before .before .before .args .file)) (c .before .before .before .before .before .before .before .before .before .before .before .before .args .start) (c .before .before .before .before .before .before .before .before .before .loop .at) (c .before .before .before .before .before .before .before .before .before .loop .count) (c .before .before .before .before .before .before .before .before .before .loop .demands) (c .before .before .before .before .before .before .before .before .before .loop .idents) (c .before .before .before .before .before .before .before .before .before .loop .inv) (c .before .before .before .before .demand-in .result) (c .before .before .before .before .demand-in .ensures) (sym (c .before .before .before .before .before .enum-told .given .1) ∙ c .before .before .before .before .before .before .before .check-field .ensures) (sym (c .enum-told2 .given .1) ∙ c .before .before .check-new-demand .ensures)) in
+    omega arith
+
+add-count : tie.Need-add-count Inv-loop μ-loop
+add-count c =
+    let room = demand-room (c .before .before .before .before .before .before .before .before .before .before .before .before .args .slots) (take (c .before .before .before .before .before .before .before .before .before .before .before .before .args .link-count) (c .before .before .before .before .before .before .before .before .before .before .before .before .args .links)) (now (c .before .before .before .before .before .before .before .before .before .before .before .before .args .file)) (c .before .before .before .before .before .before .before .before .before .before .before .before .args .start) (c .before .before .before .before .before .before .before .before .before .loop .at) (c .before .before .before .before .before .before .before .before .before .loop .count) (c .before .before .before .before .before .before .before .before .before .loop .demands) (c .before .before .before .before .before .before .before .before .before .loop .idents) (c .before .before .before .before .before .before .before .before .before .loop .inv) (demand-here (c .before .before .before .before .before .before .before .before .before .before .before .before .args .slots) (take (c .before .before .before .before .before .before .before .before .before .before .before .before .args .link-count) (c .before .before .before .before .before .before .before .before .before .before .before .before .args .links)) (now (c .before .before .before .before .before .before .before .before .before .before .before .before .args .file)) (c .before .before .before .before .before .before .before .before .before .before .before .before .args .start) (c .before .before .before .before .before .before .before .before .before .loop .at) (c .before .before .before .before .before .before .before .before .before .loop .count) (c .before .before .before .before .before .before .before .before .before .loop .demands) (c .before .before .before .before .before .before .before .before .before .loop .idents) (c .before .before .before .before .before .before .before .before .before .loop .inv) (c .before .before .before .before .demand-in .result) (c .before .before .before .before .demand-in .ensures) (sym (c .before .before .before .before .before .enum-told .given .1) ∙ c .before .before .before .before .before .before .before .check-field .ensures) (sym (c .enum-told2 .given .1) ∙ c .before .before .check-new-demand .ensures)) in
+    omega arith
+
+add-at : tie.Need-add-at Inv-loop μ-loop
+add-at c =
+    let next = demands-step (c .before .before .before .before .before .before .before .before .before .before .before .before .args .slots) (take (c .before .before .before .before .before .before .before .before .before .before .before .before .args .link-count) (c .before .before .before .before .before .before .before .before .before .before .before .before .args .links)) (now (c .before .before .before .before .before .before .before .before .before .before .before .before .args .file)) (c .before .before .before .before .before .before .before .before .before .before .before .before .args .start) (c .before .before .before .before .before .before .before .before .before .loop .at) (c .before .before .before .before .before .before .before .before .before .loop .count) (c .before .before .before .before .before .before .before .before .before .loop .demands) (c .before .before .before .before .before .before .before .before .before .loop .idents) (c .before .before .before .before .before .before .before .before .before .loop .inv) (c .before .before .before .before .demand-in .result) (c .before .before .before .before .demand-in .ensures) (λ done. omega arith) (demand-here (c .before .before .before .before .before .before .before .before .before .before .before .before .args .slots) (take (c .before .before .before .before .before .before .before .before .before .before .before .before .args .link-count) (c .before .before .before .before .before .before .before .before .before .before .before .before .args .links)) (now (c .before .before .before .before .before .before .before .before .before .before .before .before .args .file)) (c .before .before .before .before .before .before .before .before .before .before .before .before .args .start) (c .before .before .before .before .before .before .before .before .before .loop .at) (c .before .before .before .before .before .before .before .before .before .loop .count) (c .before .before .before .before .before .before .before .before .before .loop .demands) (c .before .before .before .before .before .before .before .before .before .loop .idents) (c .before .before .before .before .before .before .before .before .before .loop .inv) (c .before .before .before .before .demand-in .result) (c .before .before .before .before .demand-in .ensures) (sym (c .before .before .before .before .before .enum-told .given .1) ∙ c .before .before .before .before .before .before .before .check-field .ensures) (sym (c .enum-told2 .given .1) ∙ c .before .before .check-new-demand .ensures)) in
+    omega (arith, next .within)
+
+add-at-2 : tie.Need-add-at-2 Inv-loop μ-loop
+add-at-2 c =
+    let next = demands-step (c .before .before .before .before .before .before .before .before .before .before .before .before .before .args .slots) (take (c .before .before .before .before .before .before .before .before .before .before .before .before .before .args .link-count) (c .before .before .before .before .before .before .before .before .before .before .before .before .before .args .links)) (now (c .before .before .before .before .before .before .before .before .before .before .before .before .before .args .file)) (c .before .before .before .before .before .before .before .before .before .before .before .before .before .args .start) (c .before .before .before .before .before .before .before .before .before .before .loop .at) (c .before .before .before .before .before .before .before .before .before .before .loop .count) (c .before .before .before .before .before .before .before .before .before .before .loop .demands) (c .before .before .before .before .before .before .before .before .before .before .loop .idents) (c .before .before .before .before .before .before .before .before .before .before .loop .inv) (c .before .before .before .before .before .demand-in .result) (c .before .before .before .before .before .demand-in .ensures) (λ done. omega arith) (demand-here (c .before .before .before .before .before .before .before .before .before .before .before .before .before .args .slots) (take (c .before .before .before .before .before .before .before .before .before .before .before .before .before .args .link-count) (c .before .before .before .before .before .before .before .before .before .before .before .before .before .args .links)) (now (c .before .before .before .before .before .before .before .before .before .before .before .before .before .args .file)) (c .before .before .before .before .before .before .before .before .before .before .before .before .before .args .start) (c .before .before .before .before .before .before .before .before .before .before .loop .at) (c .before .before .before .before .before .before .before .before .before .before .loop .count) (c .before .before .before .before .before .before .before .before .before .before .loop .demands) (c .before .before .before .before .before .before .before .before .before .before .loop .idents) (c .before .before .before .before .before .before .before .before .before .before .loop .inv) (c .before .before .before .before .before .demand-in .result) (c .before .before .before .before .before .demand-in .ensures) (sym (c .before .before .before .before .before .before .enum-told .given .1) ∙ c .before .before .before .before .before .before .before .before .check-field .ensures) (sym (c .before .enum-told2 .given .1) ∙ c .before .before .before .check-new-demand .ensures)) in
+    omega (arith, next .within)
+
+loop-less : tie.Need-loop-less Inv-loop μ-loop
+loop-less c =
+    let next = demands-step (c .before .before .before .before .before .before .before .before .before .before .before .before .before .args .slots) (take (c .before .before .before .before .before .before .before .before .before .before .before .before .before .args .link-count) (c .before .before .before .before .before .before .before .before .before .before .before .before .before .args .links)) (now (c .before .before .before .before .before .before .before .before .before .before .before .before .before .args .file)) (c .before .before .before .before .before .before .before .before .before .before .before .before .before .args .start) (c .before .before .before .before .before .before .before .before .before .before .loop .at) (c .before .before .before .before .before .before .before .before .before .before .loop .count) (c .before .before .before .before .before .before .before .before .before .before .loop .demands) (c .before .before .before .before .before .before .before .before .before .before .loop .idents) (c .before .before .before .before .before .before .before .before .before .before .loop .inv) (c .before .before .before .before .before .demand-in .result) (c .before .before .before .before .before .demand-in .ensures) (λ done. omega arith) (demand-here (c .before .before .before .before .before .before .before .before .before .before .before .before .before .args .slots) (take (c .before .before .before .before .before .before .before .before .before .before .before .before .before .args .link-count) (c .before .before .before .before .before .before .before .before .before .before .before .before .before .args .links)) (now (c .before .before .before .before .before .before .before .before .before .before .before .before .before .args .file)) (c .before .before .before .before .before .before .before .before .before .before .before .before .before .args .start) (c .before .before .before .before .before .before .before .before .before .before .loop .at) (c .before .before .before .before .before .before .before .before .before .before .loop .count) (c .before .before .before .before .before .before .before .before .before .before .loop .demands) (c .before .before .before .before .before .before .before .before .before .before .loop .idents) (c .before .before .before .before .before .before .before .before .before .before .loop .inv) (c .before .before .before .before .before .demand-in .result) (c .before .before .before .before .before .demand-in .ensures) (sym (c .before .before .before .before .before .before .enum-told .given .1) ∙ c .before .before .before .before .before .before .before .before .check-field .ensures) (sym (c .before .enum-told2 .given .1) ∙ c .before .before .before .check-new-demand .ensures)) in
+    omega (arith, next .within)
+
+loop-again : tie.Need-loop-again Inv-loop μ-loop
+loop-again c = demands-step (c .before .before .before .before .before .before .before .before .before .before .before .before .before .args .slots) (take (c .before .before .before .before .before .before .before .before .before .before .before .before .before .args .link-count) (c .before .before .before .before .before .before .before .before .before .before .before .before .before .args .links)) (now (c .before .before .before .before .before .before .before .before .before .before .before .before .before .args .file)) (c .before .before .before .before .before .before .before .before .before .before .before .before .before .args .start) (c .before .before .before .before .before .before .before .before .before .before .loop .at) (c .before .before .before .before .before .before .before .before .before .before .loop .count) (c .before .before .before .before .before .before .before .before .before .before .loop .demands) (c .before .before .before .before .before .before .before .before .before .before .loop .idents) (c .before .before .before .before .before .before .before .before .before .before .loop .inv) (c .before .before .before .before .before .demand-in .result) (c .before .before .before .before .before .demand-in .ensures) (λ done. omega arith) (demand-here (c .before .before .before .before .before .before .before .before .before .before .before .before .before .args .slots) (take (c .before .before .before .before .before .before .before .before .before .before .before .before .before .args .link-count) (c .before .before .before .before .before .before .before .before .before .before .before .before .before .args .links)) (now (c .before .before .before .before .before .before .before .before .before .before .before .before .before .args .file)) (c .before .before .before .before .before .before .before .before .before .before .before .before .before .args .start) (c .before .before .before .before .before .before .before .before .before .before .loop .at) (c .before .before .before .before .before .before .before .before .before .before .loop .count) (c .before .before .before .before .before .before .before .before .before .before .loop .demands) (c .before .before .before .before .before .before .before .before .before .before .loop .idents) (c .before .before .before .before .before .before .before .before .before .before .loop .inv) (c .before .before .before .before .before .demand-in .result) (c .before .before .before .before .before .demand-in .ensures) (sym (c .before .before .before .before .before .before .enum-told .given .1) ∙ c .before .before .before .before .before .before .before .before .check-field .ensures) (sym (c .before .enum-told2 .given .1) ∙ c .before .before .before .check-new-demand .ensures))
+
+returns-3 : tie.Need-returns-3 Inv-loop μ-loop
+returns-3 c = demands-finish (c .before .before .before .before .args .slots) (take (c .before .before .before .before .args .link-count) (c .before .before .before .before .args .links)) (now (c .before .before .before .before .args .file)) (c .before .before .before .before .args .start) (c .before .loop .at) (c .before .loop .count) (c .before .loop .demands) (c .before .loop .idents) (c .before .loop .inv) (omega (arith, c .before .loop .inv .within))
+
+pub read-demands-spec : {M : Type 1} → statement M
+read-demands-spec =
+    tie.close
+    (tie.spec
+    Inv-loop
+    μ-loop
+    empty-demand-requires
+    loop-holds
+    check-field-requires
+    enum-known-header
+    no-demands-requires
+    returns
+    enum-told
+    demand-in-requires
+    array-share-prefix-idents
+    slice-aggregate-check-new-demand
+    check-new-demand-requires
+    enum-known-answer
+    no-demands-requires-2
+    returns-2
+    enum-told-2
+    mul-demands
+    array-set-from-demands
+    mul-idents
+    array-write-idents
+    add-count
+    add-at
+    add-at-2
+    loop-less
+    loop-again
+    returns-3)
