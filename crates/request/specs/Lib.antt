@@ -1,18 +1,20 @@
 -- What a request is, when it is sound, and what it is as a file.
 pub mod View
+pub mod ViewLaws
 pub mod Check
-pub mod Sound
-pub mod Encoding
+pub mod CheckLaws
 pub mod TestLaws
 pub mod Route
 pub mod RouteLaws
-pub mod CheckLaws
-pub mod ViewLaws
 pub mod Steps
 pub mod StepsLaws
-pub mod Whole
+pub mod Sound
 pub mod Passes
+pub mod Whole
 pub mod SoundLaws
+pub mod Limits
+pub mod LimitsLaws
+pub mod Encoding
 pub mod Reading
 pub mod Packing
 pub mod Writing

@@ -7,19 +7,23 @@ use mathlib.Core.Path.{_≡_, refl, sym, _∙_, ap}
 use native.Mathlib.Omega.{arith}
 use borrow.Author.Tests.{le-leb, eqb-false, ne-eqb, ltb-false}
 use lib.ListN.{length, take, getD, length-map, List·getD-map}
+use lib.Seq.{length-take-le}
 use lib.Dec.{leb, ltb, eqb}
 use Rattle.refusal.specs.declared.Refusal.{Refusal}
 use Rattle.refusal.specs.declared.Refusal.the-variants.{WrongTag, WrongLength, BandOutside, BadLink, TooManyDemands, BadRoute, IdentUsed, BadWidth}
 use Rattle.grid.specs.Grid.{allowedBand}
 use Rattle.request.specs.declared.Link.{Link}
+use Rattle.request.specs.declared.Request.{Request}
+use Rattle.request.specs.declared.Checked.{Checked}
 use Rattle.request.specs.declared.Checked.the-variants.{Sound, Refused}
-use Rattle.request.specs.View.{DemandView, View, linkAt, demandAt, noDemand}
+use Rattle.request.specs.View.{DemandView, View, view, viewDemand, linkAt, demandAt, noDemand}
 use Rattle.request.specs.Check.{then, has, soundRoute, allowedWidth, allowedHops, checkBand, checkSomeLink, checkLinks, checkLinkCount, checkDemand, checkDemands, checkDemandCount, check}
 use Rattle.request.specs.Sound.{SoundDemand, SoundRequest}
 use Rattle.request.specs.Route.{RouteHolds}
 use Rattle.request.specs.Passes.{Passes}
-use Rattle.request.specs.Whole.{Counted}
+use Rattle.request.specs.Whole.{Whole, Counted}
 use Rattle.request.specs.TestLaws.{both}
+use Rattle.request.specs.ViewLaws.{links-shown, demands-shown, demand-shown}
 use Rattle.request.specs.RouteLaws.{none-early, early-none, sound-holds, holds-sound}
 use Rattle.request.specs.CheckLaws.{then-sound, first-sound, next-sound, band-passes, some-link, few-links, links-counted, few-demands, width-allowed, hops-allowed, demand-passes}
 
@@ -116,6 +120,10 @@ ident-at : (demands : List DemandView) (k : ℕ) → getD (identsOf demands) k 0
 unfolding demandAt noDemand
 ident-at demands k = List·getD-map (λ (d : DemandView). d .ident) demands k noDemand
 
+-- there are as many idents as demands
+idents-within : (demands : List DemandView) (k : ℕ) → k < length demands → k ≤ length (identsOf demands)
+idents-within demands k h = omega (arith, length-map demands (λ (d : DemandView). d .ident))
+
 -- a demand that passes is sound, if its route is as long as it says
 passes-sound : (S count : ℕ) (links : List Link) (earlier : List ℕ) (d : DemandView) → length links ≡ count →
     (d .hops ≤ 32 → length (d .route) ≡ d .hops) → Passes S links earlier d → SoundDemand S count (linkAt links) d
@@ -153,53 +161,94 @@ sound-demand-passes S count links earlier d all routed new sound =
       route-sound = holds-sound links (d .route) (rw (all, size) holds);
     }
 
+-- six checks pass together where each passes, and only there
+all-pass : (a b c d e f : Checked) → a ≡ Sound → b ≡ Sound → c ≡ Sound → d ≡ Sound → e ≡ Sound → f ≡ Sound →
+    then a (then b (then c (then d (then e f)))) ≡ Sound
+unfolding then
+all-pass a b c d e f ha hb hc hd he hf = rw (ha, hb, hc, hd, he) hf
+
+each-passes : (a b c d e f : Checked) → then a (then b (then c (then d (then e f)))) ≡ Sound →
+    (a ≡ Sound) × (b ≡ Sound) × (c ≡ Sound) × (d ≡ Sound) × (e ≡ Sound) × (f ≡ Sound)
+each-passes a b c d e f h =
+    let from-b = next-sound a (then b (then c (then d (then e f)))) h in
+    let from-c = next-sound b (then c (then d (then e f))) from-b in
+    let from-d = next-sound c (then d (then e f)) from-c in
+    let from-e = next-sound d (then e f) from-d in (
+      first-sound a (then b (then c (then d (then e f)))) h,
+      first-sound b (then c (then d (then e f))) from-b,
+      first-sound c (then d (then e f)) from-c,
+      first-sound d (then e f) from-d,
+      first-sound e f from-e,
+      next-sound e f from-e,
+    )
+
 -- a request that the test finds sound is sound
 pub check-sound : (v : View) → Counted v → check v ≡ Sound → SoundRequest v
 unfolding check checkBand checkSomeLink checkDemandCount
 check-sound v counted sound =
-    let demands = checkDemands (v .band .slots) (v .links) [] 0 (v .demands) in
-    let number = checkDemandCount (v .demandCount) in
-    let from-some = next-sound (checkBand (v .band)) (then (checkSomeLink (v .linkCount)) (then (checkLinks 0 (v .links)) (then (checkLinkCount (v .linkCount)) (then demands number)))) sound in
-    let from-links = next-sound (checkSomeLink (v .linkCount)) (then (checkLinks 0 (v .links)) (then (checkLinkCount (v .linkCount)) (then demands number))) from-some in
-    let from-count = next-sound (checkLinks 0 (v .links)) (then (checkLinkCount (v .linkCount)) (then demands number)) from-links in
-    let from-demands = next-sound (checkLinkCount (v .linkCount)) (then demands number) from-count in
-    let few = links-counted (v .linkCount) (first-sound (checkLinkCount (v .linkCount)) (then demands number) from-count) in
+    let each =
+    each-passes (checkBand (v .band)) (checkSomeLink (v .linkCount)) (checkLinks 0 (v .links)) (checkLinkCount (v .linkCount))
+    (checkDemands (v .band .slots) (v .links) [] 0 (v .demands)) (checkDemandCount (v .demandCount)) sound in
+    let some : v .linkCount ≢ 0 = eqb-false (v .linkCount) 0 (not-refused (eqb (v .linkCount) 0) (WrongTag 0) (each .1)) in
+    let few = links-counted (v .linkCount) (each .3) in
+    let few-demands = ltb-false 200 (v .demandCount) (not-refused (ltb 200 (v .demandCount)) (TooManyDemands 200) (each .5)) in
     let all = counted .links-counted few in
-    let some : v .linkCount ≢ 0 = eqb-false (v .linkCount) 0 (not-refused (eqb (v .linkCount) 0) (WrongTag 0) (first-sound (checkSomeLink (v .linkCount)) (then (checkLinks 0 (v .links)) (then (checkLinkCount (v .linkCount)) (then demands number))) from-some)) in
-    let few-demands = ltb-false 200 (v .demandCount) (not-refused (ltb 200 (v .demandCount)) (TooManyDemands 200) (next-sound demands number from-demands)) in
     let all-demands = counted .demands-counted few-demands in
-    let each = demands-each (v .band .slots) (v .links) [] 0 (v .demands) (first-sound demands number from-demands) in
+    let passes = demands-each (v .band .slots) (v .links) [] 0 (v .demands) (each .4) in
     record {
-      band-allowed = passed (allowedBand (v .band)) (BandOutside 0) (first-sound (checkBand (v .band)) (then (checkSomeLink (v .linkCount)) (then (checkLinks 0 (v .links)) (then (checkLinkCount (v .linkCount)) (then demands number)))) sound);
+      band-allowed = passed (allowedBand (v .band)) (BandOutside 0) (each .0);
       some-link = omega arith;
       at-most-64-links = few;
-      two-nodes = λ (k : ℕ) (h : k < v .linkCount). links-two-nodes 0 (v .links) (first-sound (checkLinks 0 (v .links)) (then (checkLinkCount (v .linkCount)) (then demands number)) from-links) k (omega arith);
+      two-nodes = λ (k : ℕ) (h : k < v .linkCount). links-two-nodes 0 (v .links) (each .2) k (omega arith);
       at-most-200-demands = few-demands;
-      idents-once = λ (j k : ℕ) (jk : j < k) (h : k < v .demandCount) (same : demandAt (v .demands) j .ident ≡ demandAt (v .demands) k .ident).
-          early-none (demandAt (v .demands) k .ident) (identsOf (v .demands)) k (omega (arith, length-map (v .demands) (λ (d : DemandView). d .ident))) (each k (omega arith) .ident-new) j jk (sym same ∙ sym (ident-at (v .demands) j));
-      demands-sound = λ (k : ℕ) (h : k < v .demandCount).
-          passes-sound (v .band .slots) (v .linkCount) (v .links) (take k (identsOf (v .demands))) (demandAt (v .demands) k) all (counted .routes-counted k h) (each k (omega arith));
+      idents-once =
+          λ (j k : ℕ) (jk : j < k) (h : k < v .demandCount) (same : demandAt (v .demands) j .ident ≡ demandAt (v .demands) k .ident).
+          early-none (demandAt (v .demands) k .ident) (identsOf (v .demands)) k (idents-within (v .demands) k (omega arith))
+          (passes k (omega arith) .ident-new) j jk (sym same ∙ sym (ident-at (v .demands) j));
+      demands-sound =
+          λ (k : ℕ) (h : k < v .demandCount).
+          passes-sound (v .band .slots) (v .linkCount) (v .links) (take k (identsOf (v .demands))) (demandAt (v .demands) k) all
+          (counted .routes-counted k (omega arith)) (passes k (omega arith));
     }
 
 -- the test finds a sound request sound
 pub sound-check : (v : View) → Counted v → SoundRequest v → check v ≡ Sound
 unfolding check
 sound-check v counted sound =
-    let demands = checkDemands (v .band .slots) (v .links) [] 0 (v .demands) in
-    let number = checkDemandCount (v .demandCount) in
     let all = counted .links-counted (sound .at-most-64-links) in
     let all-demands = counted .demands-counted (sound .at-most-200-demands) in
-    then-sound (checkBand (v .band)) (then (checkSomeLink (v .linkCount)) (then (checkLinks 0 (v .links)) (then (checkLinkCount (v .linkCount)) (then demands number)))) (band-passes (v .band) (sound .band-allowed)) ∙
-    (then-sound (checkSomeLink (v .linkCount)) (then (checkLinks 0 (v .links)) (then (checkLinkCount (v .linkCount)) (then demands number))) (some-link (v .linkCount) (λ (z : v .linkCount ≡ 0). omega (arith, sound .some-link))) ∙
-    (then-sound (checkLinks 0 (v .links)) (then (checkLinkCount (v .linkCount)) (then demands number)) (two-nodes-pass 0 (v .links) (λ (k : ℕ) (h : k < length (v .links)). sound .two-nodes k (omega arith))) ∙
-    (then-sound (checkLinkCount (v .linkCount)) (then demands number) (few-links (v .linkCount) (sound .at-most-64-links)) ∙
-    (then-sound demands number
+    all-pass (checkBand (v .band)) (checkSomeLink (v .linkCount)) (checkLinks 0 (v .links)) (checkLinkCount (v .linkCount))
+    (checkDemands (v .band .slots) (v .links) [] 0 (v .demands)) (checkDemandCount (v .demandCount))
+    (band-passes (v .band) (sound .band-allowed))
+    (some-link (v .linkCount) (λ (z : v .linkCount ≡ 0). omega (arith, sound .some-link)))
+    (two-nodes-pass 0 (v .links) (λ (k : ℕ) (h : k < length (v .links)). sound .two-nodes k (omega arith)))
+    (few-links (v .linkCount) (sound .at-most-64-links))
     (each-demands (v .band .slots) (v .links) [] 0 (v .demands)
     (λ (k : ℕ) (h : k < length (v .demands)).
     let within : k < v .demandCount = omega arith in
-    sound-demand-passes (v .band .slots) (v .linkCount) (v .links) (take k (identsOf (v .demands))) (demandAt (v .demands) k) all (counted .routes-counted k within)
-    (none-early (demandAt (v .demands) k .ident) (identsOf (v .demands)) k (omega (arith, length-map (v .demands) (λ (d : DemandView). d .ident)))
+    sound-demand-passes (v .band .slots) (v .linkCount) (v .links) (take k (identsOf (v .demands))) (demandAt (v .demands) k) all
+    (counted .routes-counted k h)
+    (none-early (demandAt (v .demands) k .ident) (identsOf (v .demands)) k (idents-within (v .demands) k (omega arith))
     (λ (j : ℕ) (jk : j < k) (same : demandAt (v .demands) k .ident ≡ getD (identsOf (v .demands)) j 0).
     sound .idents-once j k jk within (sym (same ∙ ident-at (v .demands) j))))
-    (sound .demands-sound k within))) ∙
-    few-demands (v .demandCount) (sound .at-most-200-demands)))))
+    (sound .demands-sound k within)))
+    (few-demands (v .demandCount) (sound .at-most-200-demands))
+
+-- the view of a request with whole arrays is as long as it says
+pub whole-counted : (r : Request) → Whole r → Counted (view r)
+unfolding view viewDemand
+whole-counted r whole =
+    record {
+      links-counted = λ (few : r .«link_count» ≤ 64). omega (arith, links-shown r, whole .all-links);
+      demands-counted = λ (few : r .«demand_count» ≤ 200). omega (arith, demands-shown r, whole .all-demands);
+      routes-counted =
+          λ (k : ℕ) (h : k < length (view r .demands)) (short : demandAt (view r .demands) k .hops ≤ 32).
+          let shown = demand-shown r k (omega (arith, demands-shown r)) in
+          let demand = getD (r .demands) k (record { ident = 0; width = 0; hops = 0; links = [] }) in
+          let room = whole .all-hops k (omega (arith, demands-shown r, whole .all-demands)) in
+          rw shown (length-take-le (demand .hops) (demand .links) (omega (arith, rw shown at short)));
+    }
+
+-- for every request: the test finds it sound exactly where it is
+pub sound-exactly : (r : Request) → Whole r → (check (view r) ≡ Sound → SoundRequest (view r)) × (SoundRequest (view r) → check (view r) ≡ Sound)
+sound-exactly r whole = (check-sound (view r) (whole-counted r whole), sound-check (view r) (whole-counted r whole))

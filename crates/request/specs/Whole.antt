@@ -16,5 +16,5 @@ pub record Whole (r : Request) : Type 0 where
 pub record Counted (v : View) : Type 0 where
   pub links-counted : v .linkCount ≤ 64 → length (v .links) ≡ v .linkCount
   pub demands-counted : v .demandCount ≤ 200 → length (v .demands) ≡ v .demandCount
-  pub routes-counted : (k : ℕ) → k < v .demandCount → demandAt (v .demands) k .hops ≤ 32 →
+  pub routes-counted : (k : ℕ) → k < length (v .demands) → demandAt (v .demands) k .hops ≤ 32 →
       length (demandAt (v .demands) k .route) ≡ demandAt (v .demands) k .hops

@@ -10,7 +10,7 @@ ghost use mathlib.Core.Path.{_≡_};
 ghost use Prim.Native.Nat.{_≤_};
 ghost use lib.ListN.{take};
 ghost use Rattle.request.specs.View.{view, viewDemand};
-ghost use Rattle.request.specs.Check.{has, allowedWidth, allowedHops, checkDemand, check};
+ghost use Rattle.request.specs.Check.{has, allowedWidth, allowedHops, soundRoute, checkDemand, check};
 ghost use Rattle.request.specs.Steps.{checkAllLinks, checkGround};
 
 // Whether a request is sound, or the first fault in the order of its checks: the band, the links one by one, the demands one
@@ -76,7 +76,8 @@ fn check_links(links: [Link; 64], count: usize) -> Checked
     Checked::Sound
 }
 
-// One demand at listing position `k`, over the first `count` links and after demands of these idents: 8, 9, 3, 7.
+// One demand at listing position `k`, over the first `count` links and after demands of these idents. The four tests stand by
+// themselves; which of them is told first is decided here alone: 8, 9, 3, 7.
 fn check_demand(
     demand: Demand,
     k: usize,
@@ -88,23 +89,36 @@ fn check_demand(
     requires { ⌜ count ≤ 64 ⌝ }
     ensures { λ r. ⌜ r ≡ checkDemand slots (take count links) (now (earlier .entry)) k (viewDemand demand) ⌝ }
 {
-    let ident = demand.ident;
-    let width = demand.width;
-    let hops = demand.hops;
-    let route = demand.links;
-    if ident_used(earlier, ident) {
+    let used = ident_used(earlier, demand.ident);
+    let width_good = allowed_width(slots, demand.width);
+    let hops_good = allowed_hops(demand.hops);
+    let route_good = demand_route_sound(demand, links, count);
+    if used {
         return Checked::Refused(Refusal::IdentUsed(k));
     }
-    if !allowed_width(slots, width) {
+    if !width_good {
         return Checked::Refused(Refusal::BadWidth(k));
     }
-    if !allowed_hops(hops) {
+    if !hops_good {
         return Checked::Refused(Refusal::WrongLength(k));
     }
-    if sound_route(&route[..hops], links, count) {
-        Checked::Sound
+    if !route_good {
+        return Checked::Refused(Refusal::BadRoute(k));
+    }
+    Checked::Sound
+}
+
+// Whether the route of a demand is sound: of its first `hops` links, or of all that there is room for.
+fn demand_route_sound(demand: Demand, links: [Link; 64], count: usize) -> bool
+    requires { ⌜ count ≤ 64 ⌝ }
+    ensures { λ r. ⌜ r ≡ soundRoute (take count links) (viewDemand demand .route) ⌝ }
+{
+    let hops = demand.hops;
+    let route = demand.links;
+    if hops <= Request::MOST_HOPS {
+        sound_route(&route[..hops], links, count)
     } else {
-        Checked::Refused(Refusal::BadRoute(k))
+        sound_route(&route, links, count)
     }
 }
 
