@@ -30,6 +30,5 @@ checkFrom v earlier k =
 pub record Met (r : Request) (idents : List ℕ) (k : ℕ) : Type 0 where
   pub within : k ≤ r .«demand_count»
   pub within-array : k ≤ 200
-  pub few-links : r .«link_count» ≤ 64
   pub room : length idents ≡ 200
   pub answer : check (view r) ≡ checkFrom (view r) (take k idents) k

@@ -20,7 +20,7 @@ use Rattle.request.specs.View.{View, view, viewDemand, demandAt}
 use Rattle.request.specs.Check.{then, checkBand, checkSomeLink, checkLinks, checkLinkCount, checkDemand, checkDemands, checkDemandCount, check}
 use Rattle.request.specs.Steps.{checkAllLinks, checkGround, checkFrom, Met}
 use Rattle.request.specs.ViewLaws.{demands-shown, demand-shown}
-use Rattle.request.specs.CheckLaws.{then-sound, then-refused, next-sound, then-assoc, band-passes, band-refused, no-link, some-link, too-many-links, few-links, links-counted, too-many-demands, few-demands, demands-pass, demands-refused, demands-end}
+use Rattle.request.specs.CheckLaws.{then-sound, then-refused, then-assoc, band-passes, band-refused, no-link, some-link, too-many-links, few-links, too-many-demands, few-demands, demands-pass, demands-refused, demands-end}
 
 -- the checks of the band and the links come first, those of the demands after them
 ground-first : (v : View) → check v ≡ then (checkGround (v .band) (v .linkCount) (v .links)) (checkFrom v [] 0)
@@ -87,22 +87,15 @@ ground-refused r why refused =
 -- where they pass, the demands are looked at, from the first on
 pub ground-passes : (r : Request) (idents : List ℕ) → length idents ≡ 200 →
     checkGround (r .band) (r .«link_count») (take (r .«link_count») (r .links)) ≡ Sound → Met r idents 0
-unfolding view checkGround checkAllLinks
+unfolding view
 ground-passes r idents room sound =
-    let links = take (r .«link_count») (r .links) in
-    let after-some = then (checkLinks 0 links) (checkLinkCount (r .«link_count»)) in
     record {
       within = omega arith;
       within-array = omega arith;
-      few-links =
-          links-counted (r .«link_count»)
-          (next-sound (checkLinks 0 links) (checkLinkCount (r .«link_count»))
-          (next-sound (checkSomeLink (r .«link_count»)) after-some
-          (next-sound (checkBand (r .band)) (then (checkSomeLink (r .«link_count»)) after-some) sound)));
       room = room;
       answer =
           ground-first (view r) ∙
-          then-sound (checkGround (r .band) (r .«link_count») links) (checkFrom (view r) [] 0) sound;
+          then-sound (checkGround (r .band) (r .«link_count») (take (r .«link_count») (r .links))) (checkFrom (view r) [] 0) sound;
     }
 
 module _ (r : Request) (idents : List ℕ) (k : ℕ) (met : Met r idents k) (all : length (r .demands) ≡ 200) where
@@ -155,7 +148,6 @@ module _ (r : Request) (idents : List ℕ) (k : ℕ) (met : Met r idents k) (all
       record {
         within = omega arith;
         within-array = omega arith;
-        few-links = met .few-links;
         room = length-set idents k (demand .ident) ∙ met .room;
         answer =
             met .answer ∙

@@ -7,7 +7,6 @@ use crate::route::sound_route;
 use grid::Band;
 use refusal::Refusal;
 ghost use mathlib.Core.Path.{_≡_};
-ghost use Prim.Native.Nat.{_≤_};
 ghost use lib.ListN.{take};
 ghost use Rattle.request.specs.View.{view, viewDemand};
 ghost use Rattle.request.specs.Check.{has, allowedWidth, allowedHops, soundRoute, checkDemand, check};
@@ -86,7 +85,6 @@ fn check_demand(
     count: usize,
     earlier: &[u16],
 ) -> Checked
-    requires { ⌜ count ≤ 64 ⌝ }
     ensures { λ r. ⌜ r ≡ checkDemand slots (take count links) (now (earlier .entry)) k (viewDemand demand) ⌝ }
 {
     let used = ident_used(earlier, demand.ident);
@@ -110,7 +108,6 @@ fn check_demand(
 
 // Whether the route of a demand is sound: of its first `hops` links, or of all that there is room for.
 fn demand_route_sound(demand: Demand, links: [Link; 64], count: usize) -> bool
-    requires { ⌜ count ≤ 64 ⌝ }
     ensures { λ r. ⌜ r ≡ soundRoute (take count links) (viewDemand demand .route) ⌝ }
 {
     let hops = demand.hops;

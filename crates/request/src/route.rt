@@ -1,7 +1,7 @@
 // The test of a route.
 use crate::Link;
+use crate::Request;
 ghost use mathlib.Core.Path.{_≡_};
-ghost use Prim.Native.Nat.{_≤_};
 ghost use mathlib.Core.Bool.{_||_};
 ghost use lib.Dec.{eqb};
 ghost use lib.ListN.{take};
@@ -10,7 +10,6 @@ ghost use Rattle.request.specs.Check.{has, soundRoute};
 // Whether a route over the first `count` links is sound: each link is listed, stood not before, and begins where the one before
 // ends. Tested in this sequence, so that only a listed link is looked up.
 pub fn sound_route(route: &[u8], links: [Link; 64], count: usize) -> bool
-    requires { ⌜ count ≤ 64 ⌝ }
     ensures { λ r. ⌜ r ≡ soundRoute (take count links) (now (route .entry)) ⌝ }
 {
     let mut node = 0;
@@ -19,6 +18,9 @@ pub fn sound_route(route: &[u8], links: [Link; 64], count: usize) -> bool
         let link = route[p];
         let a = link as usize;
         if count <= a {
+            return false;
+        }
+        if Request::MOST_LINKS <= a {
             return false;
         }
         if stands_in(&route[..p], link) {

@@ -1,11 +1,11 @@
--- `request::route::sound_route` meets its contract. Assumes nothing.
-use Prim.Native.Nat.{ℕ, _-_}
+-- `request::route::sound_route` meets its contract: at each turn the walk has come along the first p links. Assumes nothing.
+use Prim.Native.Nat.{ℕ, _-_, min}
 use mathlib.Core.Path.{_≡_, sym, _∙_}
-use borrow.Author.Tests.{not-true, not-false}
 use native.Mathlib.Omega.{arith}
 use borrow.Author.Needs.{needs}
+use borrow.Author.Tests.{not-true, not-false}
 use denote.Ref.{now}
-use lib.ListN.{length, getD, take}
+use lib.ListN.{length, getD, take, length-take}
 use lib.Seq.{length-take-le, getD-take}
 use Rattle.request.specs.View.{linkAt, noLink}
 use Rattle.request.specs.Route.{RouteCome}
@@ -31,13 +31,24 @@ cast-a c = omega (arith, c .shared-slice-known2 .given (c .before .before .loop 
 returns : tie.Need-returns Inv-loop μ-loop
 returns c =
     let start = c .before .before .before .before .before in
-    let count = start .args .count in
     let links = start .args .t2 in
+    let listed = take (start .args .count) links in
     let route = now (start .args .route) in
-    let p = c .before .before .before .loop .p in
+    let walk = c .before .before .before .loop in
     let whole : _≡_ {A = ℕ} (length links) 64 = search needs in
-    let listed : length (take count links) ≡ count = length-take-le count links (omega arith) in
-    sym (unlisted-unsound (take count links) route p (omega arith) (omega arith))
+    let size : length listed ≡ min (start .args .count) (length links) = length-take (start .args .count) links in
+    sym (unlisted-unsound listed route (walk .p) (omega arith) (omega arith))
+
+returns-2 : tie.Need-returns-2 Inv-loop μ-loop
+returns-2 c =
+    let start = c .before .before .before .before .before .before in
+    let links = start .args .t2 in
+    let listed = take (start .args .count) links in
+    let route = now (start .args .route) in
+    let walk = c .before .before .before .before .loop in
+    let whole : _≡_ {A = ℕ} (length links) 64 = search needs in
+    let size : length listed ≡ min (start .args .count) (length links) = length-take (start .args .count) links in
+    sym (unlisted-unsound listed route (walk .p) (omega arith) (omega arith))
 
 slice-aggregate-stands-in : tie.Need-slice-aggregate-stands-in Inv-loop μ-loop
 slice-aggregate-stands-in c = sym (length-take-le _ _ (omega arith))
@@ -45,16 +56,12 @@ slice-aggregate-stands-in c = sym (length-take-le _ _ (omega arith))
 stands-in-requires : tie.Need-stands-in-requires Inv-loop μ-loop
 stands-in-requires c κs = search needs
 
-returns-2 : tie.Need-returns-2 Inv-loop μ-loop
-returns-2 c =
-    let start = c .before .before .before .before .before .before .before .before in
-    let count = start .args .count in
-    let links = start .args .t2 in
-    let route = now (start .args .route) in
-    let p = c .before .before .before .before .before .before .loop .p in
-    let whole : _≡_ {A = ℕ} (length links) 64 = search needs in
-    let listed : length (take count links) ≡ count = length-take-le count links (omega arith) in
-    sym (repeated-unsound (take count links) route p (omega arith) (sym (c .before .stands-in .ensures) ∙ c .if2 .taken))
+returns-3 : tie.Need-returns-3 Inv-loop μ-loop
+returns-3 c =
+    let start = c .before .before .before .before .before .before .before .before .before in
+    sym
+    (repeated-unsound (take (start .args .count) (start .args .t2)) (now (start .args .route)) (c .before .before .before .before .before .before .before .loop .p) (omega arith)
+    (sym (c .before .stands-in .ensures) ∙ c .if3 .taken))
 
 mul-here : tie.Need-mul-here Inv-loop μ-loop
 mul-here c = search needs
@@ -65,19 +72,21 @@ array-copy-out-here c = search needs
 goes-on-requires : tie.Need-goes-on-requires Inv-loop μ-loop
 goes-on-requires c κs = search needs
 
-returns-3 : tie.Need-returns-3 Inv-loop μ-loop
+returns-4 : tie.Need-returns-4 Inv-loop μ-loop
 unfolding linkAt noLink
-returns-3 c =
-    let start = c .before .before .before .before .before .before .before .before .before .before .before in
-    let count = start .args .count in
+returns-4 c =
+    let start = c .before .before .before .before .before .before .before .before .before .before .before .before in
     let links = start .args .t2 in
+    let listed = take (start .args .count) links in
     let route = now (start .args .route) in
-    let p = c .before .before .before .before .before .before .before .before .before .loop .p in
+    let walk = c .before .before .before .before .before .before .before .before .before .before .loop in
     let whole : _≡_ {A = ℕ} (length links) 64 = search needs in
-    let listed : length (take count links) ≡ count = length-take-le count links (omega arith) in
-    let same : linkAt (take count links) (getD route p 0) ≡ getD links (getD route p 0) noLink = getD-take count links (getD route p 0) noLink (omega arith) in
-    sym (broken-unsound (take count links) route (c .before .before .before .before .before .before .before .before .before .loop .node) p (c .before .before .before .before .before .before .before .before .before .loop .inv) (omega arith)
-    (rw same (sym (c .before .goes-on .ensures) ∙ not-true (c .before .goes-on .result) (c .if3 .taken))))
+    let size : length listed ≡ min (start .args .count) (length links) = length-take (start .args .count) links in
+    let same : linkAt listed (getD route (walk .p) 0) ≡ getD links (getD route (walk .p) 0) noLink
+    = getD-take (start .args .count) links (getD route (walk .p) 0) noLink (omega arith) in
+    sym
+    (broken-unsound listed route (walk .node) (walk .p) (walk .inv) (omega arith)
+    (rw same (sym (c .before .goes-on .ensures) ∙ not-true (c .before .goes-on .result) (c .if4 .taken))))
 
 add-p : tie.Need-add-p Inv-loop μ-loop
 add-p c = search needs
@@ -88,22 +97,26 @@ loop-less c = search needs
 loop-again : tie.Need-loop-again Inv-loop μ-loop
 unfolding linkAt noLink
 loop-again c =
-    let start = c .before .before .before .before .before .before .before .before .before .before .before in
-    let count = start .args .count in
+    let start = c .before .before .before .before .before .before .before .before .before .before .before .before in
     let links = start .args .t2 in
+    let listed = take (start .args .count) links in
     let route = now (start .args .route) in
-    let p = c .before .before .before .before .before .before .before .before .before .loop .p in
+    let walk = c .before .before .before .before .before .before .before .before .before .before .loop in
     let whole : _≡_ {A = ℕ} (length links) 64 = search needs in
-    let listed : length (take count links) ≡ count = length-take-le count links (omega arith) in
-    let same : linkAt (take count links) (getD route p 0) ≡ getD links (getD route p 0) noLink = getD-take count links (getD route p 0) noLink (omega arith) in
-    rw same at (come-on (take count links) route (c .before .before .before .before .before .before .before .before .before .loop .node) p (c .before .before .before .before .before .before .before .before .before .loop .inv) (omega arith) (omega arith)
-    (sym (c .before .before .before .before .stands-in .ensures) ∙ c .before .before .before .if2 .left)
-    (rw same (sym (c .before .goes-on .ensures) ∙ not-false (c .before .goes-on .result) (c .if3 .left))))
+    let size : length listed ≡ min (start .args .count) (length links) = length-take (start .args .count) links in
+    let same : linkAt listed (getD route (walk .p) 0) ≡ getD links (getD route (walk .p) 0) noLink
+    = getD-take (start .args .count) links (getD route (walk .p) 0) noLink (omega arith) in
+    rw same at
+    (come-on listed route (walk .node) (walk .p) (walk .inv) (omega arith) (omega arith)
+    (sym (c .before .before .before .before .stands-in .ensures) ∙ c .before .before .before .if3 .left)
+    (rw same (sym (c .before .goes-on .ensures) ∙ not-false (c .before .goes-on .result) (c .if4 .left))))
 
-returns-4 : tie.Need-returns-4 Inv-loop μ-loop
-returns-4 c =
+returns-5 : tie.Need-returns-5 Inv-loop μ-loop
+returns-5 c =
     let start = c .before .before .before in
-    sym (come-sound (take (start .args .count) (start .args .t2)) (now (start .args .route)) (c .before .loop .node) (c .before .loop .p) (c .before .loop .inv) (omega arith))
+    let walk = c .before .loop in
+    sym
+    (come-sound (take (start .args .count) (start .args .t2)) (now (start .args .route)) (walk .node) (walk .p) (walk .inv) (omega arith))
 
 pub sound-route-spec : {M : Type 1} → statement M
 sound-route-spec =
@@ -115,14 +128,15 @@ sound-route-spec =
     shared-slice-read-link
     cast-a
     returns
+    returns-2
     slice-aggregate-stands-in
     stands-in-requires
-    returns-2
+    returns-3
     mul-here
     array-copy-out-here
     goes-on-requires
-    returns-3
+    returns-4
     add-p
     loop-less
     loop-again
-    returns-4)
+    returns-5)
