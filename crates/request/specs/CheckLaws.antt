@@ -15,11 +15,12 @@ use Rattle.refusal.specs.declared.Refusal.the-variants.{WrongTag, WrongLength, 
 use Rattle.grid.specs.declared.Band.{Band}
 use Rattle.grid.specs.Grid.{allowedBand}
 use Rattle.request.specs.declared.Link.{Link}
+use Rattle.request.specs.declared.Request.{Request}
 use Rattle.request.specs.declared.Checked.{Checked}
 use Rattle.request.specs.declared.Checked.the-variants.{Sound, Refused}
-use Rattle.request.specs.View.{DemandView, linkAt, noLink, demandAt, noDemand}
+use Rattle.request.specs.View.{DemandView, linkAt, noLink, demandAt, noDemand, view}
 use Rattle.request.specs.TestLaws.{by-test, first-of, second-of}
-use Rattle.request.specs.Check.{then, has, soundRoute, allowedWidth, allowedHops, checkBand, checkSomeLink, checkLinks, checkLinkCount, checkDemand, checkDemands, checkDemandCount}
+use Rattle.request.specs.Check.{then, has, soundRoute, allowedWidth, allowedHops, checkBand, checkSomeLink, checkLinks, checkLinkCount, checkDemand, checkDemands, checkDemandCount, check}
 
 -- after a check that passes comes the next
 pub then-sound : (a next : Checked) → a ≡ Sound → then a next ≡ next
@@ -204,3 +205,7 @@ pub demands-end : (S : ℕ) (links : List Link) (earlier : List ℕ) (demands : 
     checkDemands S links earlier k (drop k demands) ≡ Sound
 unfolding checkDemands
 demands-end S links earlier demands k h = rw (drop-of-length-le demands h)
+
+-- requests that look the same get the same answer: two results of `check_request` are equal
+pub same-answer : (r r′ : Request) (a a′ : Checked) → view r ≡ view r′ → a ≡ check (view r) → a′ ≡ check (view r′) → a ≡ a′
+same-answer r r′ a a′ same h h′ = h ∙ (ap check same ∙ sym h′)

@@ -1,19 +1,16 @@
--- A sound request keeps the limits; what is behind a count is free; each answer is the only one.
+-- A sound request keeps its limits.
 use Prim.Native.Nat.{ℕ, _≤_, _<_}
 use mathlib.Core.Bool.{true, _&&_}
 use mathlib.Core.List.{[]}
-use mathlib.Core.Path.{_≡_, sym, _∙_, ap}
+use mathlib.Core.Path.{_≡_}
 use native.Mathlib.Omega.{arith}
 use borrow.Author.Tests.{leb-true}
-use lib.ListN.{getD, set}
-use lib.Seq.{getD-take, take-set-le}
+use lib.ListN.{getD}
+use lib.Seq.{getD-take}
 use lib.Dec.{leb}
 use Rattle.grid.specs.declared.Band.{Band}
 use Rattle.grid.specs.Grid.{allowedEdge, allowedSlots, allowedGuard, allowedBand}
-use Rattle.request.specs.declared.Link.{Link}
-use Rattle.request.specs.declared.Demand.{Demand}
 use Rattle.request.specs.declared.Request.{Request}
-use Rattle.request.specs.declared.Checked.{Checked}
 use Rattle.request.specs.declared.Checked.the-variants.{Sound}
 use Rattle.request.specs.View.{View, viewDemand, view, linkAt}
 use Rattle.request.specs.Check.{check}
@@ -79,25 +76,3 @@ checked-demands r whole sound =
             hops-listed = λ (p : ℕ) (hp : p < d .hops). rw (getD-take (d .hops) (d .links) p 0 hp) at (limits .links-listed p hp);
           };
     }
-
--- a link behind the count may be anything
-pub link-behind : (r : Request) (k : ℕ) (l : Link) → r .«link_count» ≤ k →
-    view (record { band = r .band; «link_count» = r .«link_count»; links = set (r .links) k l; «demand_count» = r .«demand_count»; demands = r .demands }) ≡ view r
-unfolding view
-link-behind r k l h = rw (take-set-le (r .«link_count») (r .links) k l h)
-
--- a demand behind the count may be anything
-pub demand-behind : (r : Request) (k : ℕ) (d : Demand) → r .«demand_count» ≤ k →
-    view (record { band = r .band; «link_count» = r .«link_count»; links = r .links; «demand_count» = r .«demand_count»; demands = set (r .demands) k d }) ≡ view r
-unfolding view
-demand-behind r k d h = rw (take-set-le (r .«demand_count») (r .demands) k d h)
-
--- an entry of a route behind its length may be anything
-pub hop-behind : (d : Demand) (p a : ℕ) → d .hops ≤ p →
-    viewDemand (record { ident = d .ident; width = d .width; hops = d .hops; links = set (d .links) p a }) ≡ viewDemand d
-unfolding viewDemand
-hop-behind d p a h = rw (take-set-le (d .hops) (d .links) p a h)
-
--- requests that look the same get the same answer: two results of `check_request` are equal
-pub same-answer : (r r′ : Request) (a a′ : Checked) → view r ≡ view r′ → a ≡ check (view r) → a′ ≡ check (view r′) → a ≡ a′
-same-answer r r′ a a′ same h h′ = h ∙ (ap check same ∙ sym h′)

@@ -1,11 +1,15 @@
--- What a demand must have to pass its test.
+-- What a demand must have to pass its test, after the demands before it.
 use Prim.Native.Nat.{ℕ}
 use mathlib.Core.Bool.{true, false}
-use mathlib.Core.List.{List}
+use mathlib.Core.List.{List, map}
 use mathlib.Core.Path.{_≡_}
 use Rattle.request.specs.declared.Link.{Link}
 use Rattle.request.specs.View.{DemandView}
 use Rattle.request.specs.Check.{has, allowedWidth, allowedHops, soundRoute}
+
+-- the idents of demands
+abbrev pub identsOf : List DemandView → List ℕ
+identsOf demands = map (λ (d : DemandView). d .ident) demands
 
 -- a new ident, an allowed width, an allowed route length, a sound route
 pub record Passes (S : ℕ) (links : List Link) (earlier : List ℕ) (d : DemandView) : Type 0 where

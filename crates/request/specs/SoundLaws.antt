@@ -1,7 +1,7 @@
 -- The test says sound exactly for sound requests.
 use Prim.Native.Nat.{ℕ, zero, suc, _+_, _≤_, _<_}
 use mathlib.Core.Bool.{Bool, true, false, cond}
-use mathlib.Core.List.{List, [], _∷_, _++_, map, append-assoc, append-nil}
+use mathlib.Core.List.{List, [], _∷_, _++_, append-assoc, append-nil}
 use mathlib.Core.Logic.{_≢_}
 use mathlib.Core.Path.{_≡_, refl, sym, _∙_, ap}
 use native.Mathlib.Omega.{arith}
@@ -20,7 +20,7 @@ use Rattle.request.specs.View.{DemandView, View, view, viewDemand, linkA
 use Rattle.request.specs.Check.{then, has, soundRoute, allowedWidth, allowedHops, checkBand, checkSomeLink, checkLinks, checkLinkCount, checkDemand, checkDemands, checkDemandCount, check}
 use Rattle.request.specs.Sound.{SoundDemand, SoundRequest}
 use Rattle.request.specs.Route.{RouteHolds}
-use Rattle.request.specs.Passes.{Passes}
+use Rattle.request.specs.Passes.{identsOf, Passes}
 use Rattle.request.specs.Whole.{Whole, Counted}
 use Rattle.request.specs.TestLaws.{both}
 use Rattle.request.specs.ViewLaws.{links-shown, demands-shown, demand-shown}
@@ -63,10 +63,6 @@ two-nodes-pass i (l ∷ links) each =
     then-sound (cond (eqb (l .from) (l .to)) (Refused (BadLink i)) Sound) (checkLinks (i + 1) links)
     (ap (λ (b : Bool). cond b (Refused (BadLink i)) Sound) (ne-eqb (l .from) (l .to) (each 0 (omega arith)))) ∙
     two-nodes-pass (i + 1) links (λ (k : ℕ) (h : k < length links). each (suc k) (omega arith))
-
--- the idents of demands
-abbrev identsOf : List DemandView → List ℕ
-identsOf demands = map (λ (d : DemandView). d .ident) demands
 
 -- a demand that is found sound has passed
 sound-passes : (S : ℕ) (links : List Link) (earlier : List ℕ) (i : ℕ) (d : DemandView) →
@@ -161,12 +157,13 @@ sound-demand-passes S count links earlier d all routed new sound =
       route-sound = holds-sound links (d .route) (rw (all, size) holds);
     }
 
--- six checks pass together where each passes, and only there
+-- six checks that each pass pass together
 all-pass : (a b c d e f : Checked) → a ≡ Sound → b ≡ Sound → c ≡ Sound → d ≡ Sound → e ≡ Sound → f ≡ Sound →
     then a (then b (then c (then d (then e f)))) ≡ Sound
 unfolding then
 all-pass a b c d e f ha hb hc hd he hf = rw (ha, hb, hc, hd, he) hf
 
+-- where six checks pass together, each passes
 each-passes : (a b c d e f : Checked) → then a (then b (then c (then d (then e f)))) ≡ Sound →
     (a ≡ Sound) × (b ≡ Sound) × (c ≡ Sound) × (d ≡ Sound) × (e ≡ Sound) × (f ≡ Sound)
 each-passes a b c d e f h =

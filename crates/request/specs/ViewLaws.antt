@@ -1,9 +1,11 @@
 -- What a request's view shows: the entries before the counts, and nothing else.
-use Prim.Native.Nat.{ℕ, _<_, min}
+use Prim.Native.Nat.{ℕ, _≤_, _<_, min}
 use mathlib.Core.List.{List, [], map}
 use mathlib.Core.Path.{_≡_, sym, ap, _∙_}
-use lib.ListN.{length, take, getD, length-map, length-take, List·getD-map}
-use lib.Seq.{getD-take}
+use lib.ListN.{length, take, getD, length-map, length-take, List·getD-map, set}
+use lib.Seq.{getD-take, take-set-le}
+use Rattle.request.specs.declared.Link.{Link}
+use Rattle.request.specs.declared.Demand.{Demand}
 use Rattle.request.specs.declared.Request.{Request}
 use Rattle.request.specs.View.{viewDemand, view, noLink, noDemand, linkAt, demandAt}
 
@@ -30,6 +32,24 @@ unfolding view viewDemand demandAt noDemand
 demand-shown r k h =
     List·getD-map viewDemand (take (r .«demand_count») (r .demands)) k (record { ident = 0; width = 0; hops = 0; links = [] }) ∙
     ap viewDemand (getD-take (r .«demand_count») (r .demands) k (record { ident = 0; width = 0; hops = 0; links = [] }) h)
+
+-- a link behind the count may be anything
+pub link-behind : (r : Request) (k : ℕ) (l : Link) → r .«link_count» ≤ k →
+    view (record { band = r .band; «link_count» = r .«link_count»; links = set (r .links) k l; «demand_count» = r .«demand_count»; demands = r .demands }) ≡ view r
+unfolding view
+link-behind r k l h = rw (take-set-le (r .«link_count») (r .links) k l h)
+
+-- a demand behind the count may be anything
+pub demand-behind : (r : Request) (k : ℕ) (d : Demand) → r .«demand_count» ≤ k →
+    view (record { band = r .band; «link_count» = r .«link_count»; links = r .links; «demand_count» = r .«demand_count»; demands = set (r .demands) k d }) ≡ view r
+unfolding view
+demand-behind r k d h = rw (take-set-le (r .«demand_count») (r .demands) k d h)
+
+-- an entry of a route behind its length may be anything
+pub hop-behind : (d : Demand) (p a : ℕ) → d .hops ≤ p →
+    viewDemand (record { ident = d .ident; width = d .width; hops = d .hops; links = set (d .links) p a }) ≡ viewDemand d
+unfolding viewDemand
+hop-behind d p a h = rw (take-set-le (d .hops) (d .links) p a h)
 
 -- a list is as long as any list made of it entry by entry
 pub mapped-length : (X Y : Type 0) (f : X → Y) (l : List X) (n : ℕ) → length (map f l) ≡ n → length l ≡ n
