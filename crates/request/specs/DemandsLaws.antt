@@ -70,15 +70,11 @@ demand-holds S links earlier at d sound =
       route-sound = test-held (soundRoute links (d .route)) (BadRoute at) three;
     }
 
--- a demand in a sound field has a route of as many links as it says, at most 32
+-- a demand in a sound field has a route of as many links as it says
 pub demand-counted : (s : List ℕ) (at : ℕ) → FieldHolds s at 3 5 36 → length (demandIn s at .route) ≡ demandIn s at .hops
 unfolding demandIn bodyLength
 demand-counted s at h =
     length-take-le (number16 s (at + 1) - 4) (drop (at + 7) s) (rw (length-drop (at + 7) s) (omega arith))
-
-pub demand-short : (s : List ℕ) (at : ℕ) → FieldHolds s at 3 5 36 → demandIn s at .hops ≤ 32
-unfolding demandIn bodyLength
-demand-short s at h = omega arith
 
 -- a demand's field ends behind its route
 pub demand-end : (s : List ℕ) (at : ℕ) → FieldHolds s at 3 5 36 → fieldEnd s at ≡ at + 7 + demandIn s at .hops
@@ -217,12 +213,7 @@ module _ (S : ℕ) (links : List Link) (s : List ℕ) (start at count : ℕ) (ar
         demand-then S links s at (take count used) field
         (e ∙ ap (checkNewDemand S links (take count used) at) (ap viewDemand read ∙ view-packed (demandIn s at) counted))
 
-    -- it has at most 32 links
-    pub read-short : Sound ≡ checkField s at 3 5 36 → demand .hops ≤ 32
-    unfolding packDemand
-    read-short field = rw read (demand-short s at (field-holds s at 3 5 36 (sym field)))
-
-    -- and is stored as one more
+    -- it is stored as one more
     pub demands-step : (at ≡ length s → ⊥) → Sound ≡ checkDemandField S links s at (take count used) →
         DemandsSoFar S links s start (at + 7 + demand .hops) (count + 1) (set array count demand) (set used count (demand .ident))
     unfolding packDemand

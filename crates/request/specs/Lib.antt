@@ -24,3 +24,6 @@ pub mod PackingLaws
 pub mod LinksLaws
 pub mod DemandsLaws
 pub mod FileLaws
+pub mod EncodingLaws
+pub mod WritingLaws
+pub mod OutLaws

@@ -150,7 +150,7 @@ module _ (s : List ℕ) (at count : ℕ) (array : List Link) (so-far : LinksSoFa
             sym (links-more (64 - count) s at (so-far .links) (rw (so-far .counted) more) (rw (so-far .counted) sound)) ∙ links-here;
       }
 
--- beside a refusal nothing is counted
-pub refused-count : (found : LinksFound) (size : ℕ) (why : Refusal) → found ≡ packLinks (linksRefused why) → (found .count ≤ 64) × (found .end ≤ size)
+-- beside a refusal the offset is 0
+pub refused-end : (found : LinksFound) (size : ℕ) (why : Refusal) → found ≡ packLinks (linksRefused why) → found .end ≤ size
 unfolding packLinks
-refused-count found size why refused = rw refused (omega arith, omega arith)
+refused-end found size why refused = rw refused (omega arith)

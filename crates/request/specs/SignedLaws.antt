@@ -101,3 +101,10 @@ pub raised-exact : (z : ℤ) → ltZ z (pos 0) ≡ true → SFits w16 z →
 raised-exact z below h =
     toZ-ofZ w32 (toZ w32 (ofZ w32 (toZ w16 (ofZ w16 z))) +ℤ pos 65536) (raised-fits z below h) ∙
     ap (λ (y : ℤ). y +ℤ pos 65536) (widened z h) ∙ raised z below h
+
+-- 16 bits are within 32
+pub in-32 : (z : ℤ) → SFits w16 z → SFits w32 (toZ w16 (ofZ w16 z))
+in-32 z h = rw (toZ-ofZ w16 z h) (record { sfits = widen (h .sfits) })
+  where
+    widen : {n : ℕ} → n < 32768 → n < 2147483648
+    widen low = omega arith

@@ -107,7 +107,7 @@ fn check_demand(
 }
 
 // Whether the route of a demand is sound: of its first `hops` links, or of all that there is room for.
-fn demand_route_sound(demand: Demand, links: [Link; 64], count: usize) -> bool
+pub fn demand_route_sound(demand: Demand, links: [Link; 64], count: usize) -> bool
     ensures { λ r. ⌜ r ≡ soundRoute (take count links) (viewDemand demand .route) ⌝ }
 {
     let hops = demand.hops;

@@ -5,6 +5,7 @@ use refusal::Refusal;
 mod check;
 mod read;
 mod route;
+mod write;
 
 pub use check::check_request;
 pub use read::empty_request;

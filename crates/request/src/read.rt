@@ -5,8 +5,8 @@ use crate::Link;
 use crate::Reading;
 use crate::Request;
 use crate::check::allowed_width;
+use crate::check::demand_route_sound;
 use crate::check::ident_used;
-use crate::route::sound_route;
 use grid::Band;
 use refusal::Refusal;
 ghost use mathlib.Core.Path.{_≡_};
@@ -138,7 +138,7 @@ fn check_band_field(file: &[u8]) -> Checked
 fn read_links(file: &[u8]) -> LinksFound
     requires { ⌜ 8 ≤ length (now file) ⌝ }
     ensures { λ r. ⌜ r ≡ packLinks (readLinks 65 (now (file .entry)) 8 []) ⌝ }
-    ensures { λ r. ⌜ (r .count ≤ 64) × (r .end ≤ length (now (file .entry))) ⌝ }
+    ensures { λ r. ⌜ r .end ≤ length (now (file .entry)) ⌝ }
 {
     let mut links = [Link { from: 0, to: 0 }; 64];
     let mut count = 0;
@@ -217,7 +217,6 @@ fn read_demands(
     link_count: usize,
 ) -> DemandsFound
     requires { ⌜ start ≤ length (now file) ⌝ }
-    requires { ⌜ «link_count» ≤ 64 ⌝ }
     ensures { λ r. ⌜ r ≡ packDemands (readDemands 201 slots (take «link_count» links) (now (file .entry)) start []) ⌝ }
 {
     let mut demands = [empty_demand(); 200];
@@ -257,7 +256,8 @@ fn no_demands(why: Refusal) -> DemandsFound
     }
 }
 
-// A demand read at an offset after demands of these idents: 6, 8, 9, 7.
+// A demand read at an offset after demands of these idents. The tests stand by themselves; which of them is told first is
+// decided here alone: 6, 8, 9, 7.
 fn check_new_demand(
     demand: Demand,
     at: usize,
@@ -266,28 +266,24 @@ fn check_new_demand(
     link_count: usize,
     earlier: &[u16],
 ) -> Checked
-    requires { ⌜ demand .hops ≤ 32 ⌝ }
-    requires { ⌜ «link_count» ≤ 64 ⌝ }
     ensures { λ r. ⌜ r ≡ checkNewDemand slots (take «link_count» links) (now (earlier .entry)) at (viewDemand demand) ⌝ }
 {
-    let ident = demand.ident;
-    let width = demand.width;
-    let hops = demand.hops;
-    let route = demand.links;
+    let used = ident_used(earlier, demand.ident);
+    let width_good = allowed_width(slots, demand.width);
+    let route_good = demand_route_sound(demand, links, link_count);
     if Request::MOST_DEMANDS <= earlier.len() {
         return Checked::Refused(Refusal::TooManyDemands(at));
     }
-    if ident_used(earlier, ident) {
+    if used {
         return Checked::Refused(Refusal::IdentUsed(at));
     }
-    if !allowed_width(slots, width) {
+    if !width_good {
         return Checked::Refused(Refusal::BadWidth(at));
     }
-    if sound_route(&route[..hops], links, link_count) {
-        Checked::Sound
-    } else {
-        Checked::Refused(Refusal::BadRoute(at))
+    if !route_good {
+        return Checked::Refused(Refusal::BadRoute(at));
     }
+    Checked::Sound
 }
 
 // Every field: 1 where it runs past the end, 2 where another tag must stand there, 3 where its length is not least to most.

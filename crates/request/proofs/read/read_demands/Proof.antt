@@ -5,7 +5,7 @@ use native.Mathlib.Omega.{arith}
 use borrow.Author.Needs.{needs}
 use denote.Ref.{now}
 use lib.ListN.{length, take, replicate}
-use Rattle.request.specs.DemandsLaws.{used-room, DemandsSoFar, demands-begin, demands-finish, demands-fail, demands-step, field-first, demand-here, demand-room, read-short, used-length}
+use Rattle.request.specs.DemandsLaws.{used-room, DemandsSoFar, demands-begin, demands-finish, demands-fail, demands-step, field-first, demand-here, demand-room, used-length}
 use Rattle.request.specs.declared.Demand.{Demand}
 use Rattle.request.proofs.read.read_demands.Statement.{statement}
 use Rattle.request.proofs.read.read_demands.Tie as tie
@@ -21,8 +21,11 @@ empty-demand-requires c κs = search needs
 
 loop-holds : tie.Need-loop-holds Inv-loop μ-loop
 loop-holds c =
-    subst (λ (d : Demand). DemandsSoFar (c .before .before .args .slots) (take (c .before .before .args .link-count) (c .before .before .args .links)) (now (c .before .before .args .file)) (c .before .before .args .start) (c .before .before .args .start) 0 (replicate 200 d) (replicate 200 0))
-    (sym (c .empty-demand .ensures)) (demands-begin (c .before .before .args .slots) (take (c .before .before .args .link-count) (c .before .before .args .links)) (now (c .before .before .args .file)) (c .before .before .args .start) (c .before .before .pre .0))
+    let start = c .before .before in
+    let links = take (start .args .link-count) (start .args .links) in
+    let s = now (start .args .file) in
+    subst (λ (d : Demand). DemandsSoFar (start .args .slots) links s (start .args .start) (start .args .start) 0 (replicate 200 d) (replicate 200 0))
+    (sym (c .empty-demand .ensures)) (demands-begin (start .args .slots) links s (start .args .start) (start .pre))
 
 check-field-requires : tie.Need-check-field-requires Inv-loop μ-loop
 check-field-requires c κs = c .before .loop .inv .within
@@ -35,9 +38,13 @@ no-demands-requires c κs = search needs
 
 returns : tie.Need-returns Inv-loop μ-loop
 returns c =
+    let start = c .before .before .before .before .before .before .before .before .before in
+    let turn = c .before .before .before .before .before .before .loop in
+    let links = take (start .args .link-count) (start .args .links) in
+    let s = now (start .args .file) in
     c .no-demands .ensures ∙
-    demands-fail (c .before .before .before .before .before .before .before .before .before .args .slots) (take (c .before .before .before .before .before .before .before .before .before .args .link-count) (c .before .before .before .before .before .before .before .before .before .args .links)) (now (c .before .before .before .before .before .before .before .before .before .args .file)) (c .before .before .before .before .before .before .before .before .before .args .start) (c .before .before .before .before .before .before .loop .at) (c .before .before .before .before .before .before .loop .count) (c .before .before .before .before .before .before .loop .demands) (c .before .before .before .before .before .before .loop .idents) (c .before .before .before .before .before .before .loop .inv) (λ done. omega arith)
-    (field-first (c .before .before .before .before .before .before .before .before .before .args .slots) (take (c .before .before .before .before .before .before .before .before .before .args .link-count) (c .before .before .before .before .before .before .before .before .before .args .links)) (now (c .before .before .before .before .before .before .before .before .before .args .file)) (c .before .before .before .before .before .before .loop .at) (take (c .before .before .before .before .before .before .loop .count) (c .before .before .before .before .before .before .loop .idents)) (sym (c .before .before .header .given .1) ∙ c .before .before .before .before .check-field .ensures))
+    demands-fail (start .args .slots) links s (start .args .start) (turn .at) (turn .count) (turn .demands) (turn .idents) (turn .inv) (λ done. omega arith)
+    (field-first (start .args .slots) links s (turn .at) (take (turn .count) (turn .idents)) (sym (c .before .before .header .given .1) ∙ c .before .before .before .before .check-field .ensures))
 
 enum-told : tie.Need-enum-told Inv-loop μ-loop
 enum-told c = search needs
@@ -46,13 +53,23 @@ demand-in-requires : tie.Need-demand-in-requires Inv-loop μ-loop
 demand-in-requires c κs = sym (c .before .before .check-field .ensures) ∙ c .enum-told .given .1
 
 array-share-prefix-idents : tie.Need-array-share-prefix-idents Inv-loop μ-loop
-array-share-prefix-idents c = used-room (c .before .before .before .before .before .before .before .before .args .slots) (take (c .before .before .before .before .before .before .before .before .args .link-count) (c .before .before .before .before .before .before .before .before .args .links)) (now (c .before .before .before .before .before .before .before .before .args .file)) (c .before .before .before .before .before .before .before .before .args .start) (c .before .before .before .before .before .loop .at) (c .before .before .before .before .before .loop .count) (c .before .before .before .before .before .loop .demands) (c .before .before .before .before .before .loop .idents) (c .before .before .before .before .before .loop .inv)
+array-share-prefix-idents c =
+    let start = c .before .before .before .before .before .before .before .before in
+    let turn = c .before .before .before .before .before .loop in
+    let links = take (start .args .link-count) (start .args .links) in
+    let s = now (start .args .file) in
+    used-room (start .args .slots) links s (start .args .start) (turn .at) (turn .count) (turn .demands) (turn .idents) (turn .inv)
 
 slice-aggregate-check-new-demand : tie.Need-slice-aggregate-check-new-demand Inv-loop μ-loop
-slice-aggregate-check-new-demand c = sym (used-length (c .before .before .before .before .before .before .before .before .before .args .slots) (take (c .before .before .before .before .before .before .before .before .before .args .link-count) (c .before .before .before .before .before .before .before .before .before .args .links)) (now (c .before .before .before .before .before .before .before .before .before .args .file)) (c .before .before .before .before .before .before .before .before .before .args .start) (c .before .before .before .before .before .before .loop .at) (c .before .before .before .before .before .before .loop .count) (c .before .before .before .before .before .before .loop .demands) (c .before .before .before .before .before .before .loop .idents) (c .before .before .before .before .before .before .loop .inv))
+slice-aggregate-check-new-demand c =
+    let start = c .before .before .before .before .before .before .before .before .before in
+    let turn = c .before .before .before .before .before .before .loop in
+    let links = take (start .args .link-count) (start .args .links) in
+    let s = now (start .args .file) in
+    sym (used-length (start .args .slots) links s (start .args .start) (turn .at) (turn .count) (turn .demands) (turn .idents) (turn .inv))
 
 check-new-demand-requires : tie.Need-check-new-demand-requires Inv-loop μ-loop
-check-new-demand-requires c κs = (read-short (c .before .before .before .before .before .before .before .before .before .args .slots) (take (c .before .before .before .before .before .before .before .before .before .args .link-count) (c .before .before .before .before .before .before .before .before .before .args .links)) (now (c .before .before .before .before .before .before .before .before .before .args .file)) (c .before .before .before .before .before .before .before .before .before .args .start) (c .before .before .before .before .before .before .loop .at) (c .before .before .before .before .before .before .loop .count) (c .before .before .before .before .before .before .loop .demands) (c .before .before .before .before .before .before .loop .idents) (c .before .before .before .before .before .before .loop .inv) (c .before .demand-in .result) (c .before .demand-in .ensures) (sym (c .before .before .enum-told .given .1) ∙ c .before .before .before .before .check-field .ensures), c .before .before .before .before .before .before .before .before .before .pre .1)
+check-new-demand-requires c κs = search needs
 
 enum-known-answer : tie.Need-enum-known-answer Inv-loop μ-loop
 enum-known-answer c = search needs
@@ -62,58 +79,133 @@ no-demands-requires-2 c κs = search needs
 
 returns-2 : tie.Need-returns-2 Inv-loop μ-loop
 returns-2 c =
+    let start = c .before .before .before .before .before .before .before .before .before .before .before .before .before .before in
+    let turn = c .before .before .before .before .before .before .before .before .before .before .before .loop in
+    let links = take (start .args .link-count) (start .args .links) in
+    let s = now (start .args .file) in
+    let read = c .before .before .before .before .before .before .demand-in in
+    let field = sym (c .before .before .before .before .before .before .before .enum-told .given .1) ∙ c .before .before .before .before .before .before .before .before .before .check-field .ensures in
     c .no-demands2 .ensures ∙
-    demands-fail (c .before .before .before .before .before .before .before .before .before .before .before .before .before .before .args .slots) (take (c .before .before .before .before .before .before .before .before .before .before .before .before .before .before .args .link-count) (c .before .before .before .before .before .before .before .before .before .before .before .before .before .before .args .links)) (now (c .before .before .before .before .before .before .before .before .before .before .before .before .before .before .args .file)) (c .before .before .before .before .before .before .before .before .before .before .before .before .before .before .args .start) (c .before .before .before .before .before .before .before .before .before .before .before .loop .at) (c .before .before .before .before .before .before .before .before .before .before .before .loop .count) (c .before .before .before .before .before .before .before .before .before .before .before .loop .demands) (c .before .before .before .before .before .before .before .before .before .before .before .loop .idents) (c .before .before .before .before .before .before .before .before .before .before .before .loop .inv) (λ done. omega arith)
-    (demand-here (c .before .before .before .before .before .before .before .before .before .before .before .before .before .before .args .slots) (take (c .before .before .before .before .before .before .before .before .before .before .before .before .before .before .args .link-count) (c .before .before .before .before .before .before .before .before .before .before .before .before .before .before .args .links)) (now (c .before .before .before .before .before .before .before .before .before .before .before .before .before .before .args .file)) (c .before .before .before .before .before .before .before .before .before .before .before .before .before .before .args .start) (c .before .before .before .before .before .before .before .before .before .before .before .loop .at) (c .before .before .before .before .before .before .before .before .before .before .before .loop .count) (c .before .before .before .before .before .before .before .before .before .before .before .loop .demands) (c .before .before .before .before .before .before .before .before .before .before .before .loop .idents) (c .before .before .before .before .before .before .before .before .before .before .before .loop .inv) (c .before .before .before .before .before .before .demand-in .result) (c .before .before .before .before .before .before .demand-in .ensures) (sym (c .before .before .before .before .before .before .before .enum-told .given .1) ∙ c .before .before .before .before .before .before .before .before .before .check-field .ensures) (sym (c .before .before .answer .given .1) ∙ c .before .before .before .before .check-new-demand .ensures))
+    demands-fail (start .args .slots) links s (start .args .start) (turn .at) (turn .count) (turn .demands) (turn .idents) (turn .inv) (λ done. omega arith)
+    (demand-here (start .args .slots) links s (start .args .start) (turn .at) (turn .count) (turn .demands) (turn .idents) (turn .inv) (read .result) (read .ensures) field (sym (c .before .before .answer .given .1) ∙ c .before .before .before .before .check-new-demand .ensures))
 
 enum-told-2 : tie.Need-enum-told-2 Inv-loop μ-loop
 enum-told-2 c = search needs
 
 mul-demands : tie.Need-mul-demands Inv-loop μ-loop
 mul-demands c =
-    let room = demand-room (c .before .before .before .before .before .before .before .before .before .before .before .before .args .slots) (take (c .before .before .before .before .before .before .before .before .before .before .before .before .args .link-count) (c .before .before .before .before .before .before .before .before .before .before .before .before .args .links)) (now (c .before .before .before .before .before .before .before .before .before .before .before .before .args .file)) (c .before .before .before .before .before .before .before .before .before .before .before .before .args .start) (c .before .before .before .before .before .before .before .before .before .loop .at) (c .before .before .before .before .before .before .before .before .before .loop .count) (c .before .before .before .before .before .before .before .before .before .loop .demands) (c .before .before .before .before .before .before .before .before .before .loop .idents) (c .before .before .before .before .before .before .before .before .before .loop .inv) (demand-here (c .before .before .before .before .before .before .before .before .before .before .before .before .args .slots) (take (c .before .before .before .before .before .before .before .before .before .before .before .before .args .link-count) (c .before .before .before .before .before .before .before .before .before .before .before .before .args .links)) (now (c .before .before .before .before .before .before .before .before .before .before .before .before .args .file)) (c .before .before .before .before .before .before .before .before .before .before .before .before .args .start) (c .before .before .before .before .before .before .before .before .before .loop .at) (c .before .before .before .before .before .before .before .before .before .loop .count) (c .before .before .before .before .before .before .before .before .before .loop .demands) (c .before .before .before .before .before .before .before .before .before .loop .idents) (c .before .before .before .before .before .before .before .before .before .loop .inv) (c .before .before .before .before .demand-in .result) (c .before .before .before .before .demand-in .ensures) (sym (c .before .before .before .before .before .enum-told .given .1) ∙ c .before .before .before .before .before .before .before .check-field .ensures) (sym (c .enum-told2 .given .1) ∙ c .before .before .check-new-demand .ensures)) in
+    let start = c .before .before .before .before .before .before .before .before .before .before .before .before in
+    let turn = c .before .before .before .before .before .before .before .before .before .loop in
+    let links = take (start .args .link-count) (start .args .links) in
+    let s = now (start .args .file) in
+    let read = c .before .before .before .before .demand-in in
+    let field = sym (c .before .before .before .before .before .enum-told .given .1) ∙ c .before .before .before .before .before .before .before .check-field .ensures in
+    let sound = demand-here (start .args .slots) links s (start .args .start) (turn .at) (turn .count) (turn .demands) (turn .idents) (turn .inv) (read .result) (read .ensures) field (sym (c .enum-told2 .given .1) ∙ c .before .before .check-new-demand .ensures) in
+    let room = demand-room (start .args .slots) links s (start .args .start) (turn .at) (turn .count) (turn .demands) (turn .idents) (turn .inv) sound in
     omega arith
 
 array-set-from-demands : tie.Need-array-set-from-demands Inv-loop μ-loop
 array-set-from-demands c =
-    let room = demand-room (c .before .before .before .before .before .before .before .before .before .before .before .before .args .slots) (take (c .before .before .before .before .before .before .before .before .before .before .before .before .args .link-count) (c .before .before .before .before .before .before .before .before .before .before .before .before .args .links)) (now (c .before .before .before .before .before .before .before .before .before .before .before .before .args .file)) (c .before .before .before .before .before .before .before .before .before .before .before .before .args .start) (c .before .before .before .before .before .before .before .before .before .loop .at) (c .before .before .before .before .before .before .before .before .before .loop .count) (c .before .before .before .before .before .before .before .before .before .loop .demands) (c .before .before .before .before .before .before .before .before .before .loop .idents) (c .before .before .before .before .before .before .before .before .before .loop .inv) (demand-here (c .before .before .before .before .before .before .before .before .before .before .before .before .args .slots) (take (c .before .before .before .before .before .before .before .before .before .before .before .before .args .link-count) (c .before .before .before .before .before .before .before .before .before .before .before .before .args .links)) (now (c .before .before .before .before .before .before .before .before .before .before .before .before .args .file)) (c .before .before .before .before .before .before .before .before .before .before .before .before .args .start) (c .before .before .before .before .before .before .before .before .before .loop .at) (c .before .before .before .before .before .before .before .before .before .loop .count) (c .before .before .before .before .before .before .before .before .before .loop .demands) (c .before .before .before .before .before .before .before .before .before .loop .idents) (c .before .before .before .before .before .before .before .before .before .loop .inv) (c .before .before .before .before .demand-in .result) (c .before .before .before .before .demand-in .ensures) (sym (c .before .before .before .before .before .enum-told .given .1) ∙ c .before .before .before .before .before .before .before .check-field .ensures) (sym (c .enum-told2 .given .1) ∙ c .before .before .check-new-demand .ensures)) in
+    let start = c .before .before .before .before .before .before .before .before .before .before .before .before in
+    let turn = c .before .before .before .before .before .before .before .before .before .loop in
+    let links = take (start .args .link-count) (start .args .links) in
+    let s = now (start .args .file) in
+    let read = c .before .before .before .before .demand-in in
+    let field = sym (c .before .before .before .before .before .enum-told .given .1) ∙ c .before .before .before .before .before .before .before .check-field .ensures in
+    let sound = demand-here (start .args .slots) links s (start .args .start) (turn .at) (turn .count) (turn .demands) (turn .idents) (turn .inv) (read .result) (read .ensures) field (sym (c .enum-told2 .given .1) ∙ c .before .before .check-new-demand .ensures) in
+    let room = demand-room (start .args .slots) links s (start .args .start) (turn .at) (turn .count) (turn .demands) (turn .idents) (turn .inv) sound in
     omega arith
 
 mul-idents : tie.Need-mul-idents Inv-loop μ-loop
 mul-idents c =
-    let room = demand-room (c .before .before .before .before .before .before .before .before .before .before .before .before .args .slots) (take (c .before .before .before .before .before .before .before .before .before .before .before .before .args .link-count) (c .before .before .before .before .before .before .before .before .before .before .before .before .args .links)) (now (c .before .before .before .before .before .before .before .before .before .before .before .before .args .file)) (c .before .before .before .before .before .before .before .before .before .before .before .before .args .start) (c .before .before .before .before .before .before .before .before .before .loop .at) (c .before .before .before .before .before .before .before .before .before .loop .count) (c .before .before .before .before .before .before .before .before .before .loop .demands) (c .before .before .before .before .before .before .before .before .before .loop .idents) (c .before .before .before .before .before .before .before .before .before .loop .inv) (demand-here (c .before .before .before .before .before .before .before .before .before .before .before .before .args .slots) (take (c .before .before .before .before .before .before .before .before .before .before .before .before .args .link-count) (c .before .before .before .before .before .before .before .before .before .before .before .before .args .links)) (now (c .before .before .before .before .before .before .before .before .before .before .before .before .args .file)) (c .before .before .before .before .before .before .before .before .before .before .before .before .args .start) (c .before .before .before .before .before .before .before .before .before .loop .at) (c .before .before .before .before .before .before .before .before .before .loop .count) (c .before .before .before .before .before .before .before .before .before .loop .demands) (c .before .before .before .before .before .before .before .before .before .loop .idents) (c .before .before .before .before .before .before .before .before .before .loop .inv) (c .before .before .before .before .demand-in .result) (c .before .before .before .before .demand-in .ensures) (sym (c .before .before .before .before .before .enum-told .given .1) ∙ c .before .before .before .before .before .before .before .check-field .ensures) (sym (c .enum-told2 .given .1) ∙ c .before .before .check-new-demand .ensures)) in
+    let start = c .before .before .before .before .before .before .before .before .before .before .before .before in
+    let turn = c .before .before .before .before .before .before .before .before .before .loop in
+    let links = take (start .args .link-count) (start .args .links) in
+    let s = now (start .args .file) in
+    let read = c .before .before .before .before .demand-in in
+    let field = sym (c .before .before .before .before .before .enum-told .given .1) ∙ c .before .before .before .before .before .before .before .check-field .ensures in
+    let sound = demand-here (start .args .slots) links s (start .args .start) (turn .at) (turn .count) (turn .demands) (turn .idents) (turn .inv) (read .result) (read .ensures) field (sym (c .enum-told2 .given .1) ∙ c .before .before .check-new-demand .ensures) in
+    let room = demand-room (start .args .slots) links s (start .args .start) (turn .at) (turn .count) (turn .demands) (turn .idents) (turn .inv) sound in
     omega arith
 
 array-write-idents : tie.Need-array-write-idents Inv-loop μ-loop
 array-write-idents c =
-    let room = demand-room (c .before .before .before .before .before .before .before .before .before .before .before .before .args .slots) (take (c .before .before .before .before .before .before .before .before .before .before .before .before .args .link-count) (c .before .before .before .before .before .before .before .before .before .before .before .before .args .links)) (now (c .before .before .before .before .before .before .before .before .before .before .before .before .args .file)) (c .before .before .before .before .before .before .before .before .before .before .before .before .args .start) (c .before .before .before .before .before .before .before .before .before .loop .at) (c .before .before .before .before .before .before .before .before .before .loop .count) (c .before .before .before .before .before .before .before .before .before .loop .demands) (c .before .before .before .before .before .before .before .before .before .loop .idents) (c .before .before .before .before .before .before .before .before .before .loop .inv) (demand-here (c .before .before .before .before .before .before .before .before .before .before .before .before .args .slots) (take (c .before .before .before .before .before .before .before .before .before .before .before .before .args .link-count) (c .before .before .before .before .before .before .before .before .before .before .before .before .args .links)) (now (c .before .before .before .before .before .before .before .before .before .before .before .before .args .file)) (c .before .before .before .before .before .before .before .before .before .before .before .before .args .start) (c .before .before .before .before .before .before .before .before .before .loop .at) (c .before .before .before .before .before .before .before .before .before .loop .count) (c .before .before .before .before .before .before .before .before .before .loop .demands) (c .before .before .before .before .before .before .before .before .before .loop .idents) (c .before .before .before .before .before .before .before .before .before .loop .inv) (c .before .before .before .before .demand-in .result) (c .before .before .before .before .demand-in .ensures) (sym (c .before .before .before .before .before .enum-told .given .1) ∙ c .before .before .before .before .before .before .before .check-field .ensures) (sym (c .enum-told2 .given .1) ∙ c .before .before .check-new-demand .ensures)) in
+    let start = c .before .before .before .before .before .before .before .before .before .before .before .before in
+    let turn = c .before .before .before .before .before .before .before .before .before .loop in
+    let links = take (start .args .link-count) (start .args .links) in
+    let s = now (start .args .file) in
+    let read = c .before .before .before .before .demand-in in
+    let field = sym (c .before .before .before .before .before .enum-told .given .1) ∙ c .before .before .before .before .before .before .before .check-field .ensures in
+    let sound = demand-here (start .args .slots) links s (start .args .start) (turn .at) (turn .count) (turn .demands) (turn .idents) (turn .inv) (read .result) (read .ensures) field (sym (c .enum-told2 .given .1) ∙ c .before .before .check-new-demand .ensures) in
+    let room = demand-room (start .args .slots) links s (start .args .start) (turn .at) (turn .count) (turn .demands) (turn .idents) (turn .inv) sound in
     omega arith
 
 add-count : tie.Need-add-count Inv-loop μ-loop
 add-count c =
-    let room = demand-room (c .before .before .before .before .before .before .before .before .before .before .before .before .args .slots) (take (c .before .before .before .before .before .before .before .before .before .before .before .before .args .link-count) (c .before .before .before .before .before .before .before .before .before .before .before .before .args .links)) (now (c .before .before .before .before .before .before .before .before .before .before .before .before .args .file)) (c .before .before .before .before .before .before .before .before .before .before .before .before .args .start) (c .before .before .before .before .before .before .before .before .before .loop .at) (c .before .before .before .before .before .before .before .before .before .loop .count) (c .before .before .before .before .before .before .before .before .before .loop .demands) (c .before .before .before .before .before .before .before .before .before .loop .idents) (c .before .before .before .before .before .before .before .before .before .loop .inv) (demand-here (c .before .before .before .before .before .before .before .before .before .before .before .before .args .slots) (take (c .before .before .before .before .before .before .before .before .before .before .before .before .args .link-count) (c .before .before .before .before .before .before .before .before .before .before .before .before .args .links)) (now (c .before .before .before .before .before .before .before .before .before .before .before .before .args .file)) (c .before .before .before .before .before .before .before .before .before .before .before .before .args .start) (c .before .before .before .before .before .before .before .before .before .loop .at) (c .before .before .before .before .before .before .before .before .before .loop .count) (c .before .before .before .before .before .before .before .before .before .loop .demands) (c .before .before .before .before .before .before .before .before .before .loop .idents) (c .before .before .before .before .before .before .before .before .before .loop .inv) (c .before .before .before .before .demand-in .result) (c .before .before .before .before .demand-in .ensures) (sym (c .before .before .before .before .before .enum-told .given .1) ∙ c .before .before .before .before .before .before .before .check-field .ensures) (sym (c .enum-told2 .given .1) ∙ c .before .before .check-new-demand .ensures)) in
+    let start = c .before .before .before .before .before .before .before .before .before .before .before .before in
+    let turn = c .before .before .before .before .before .before .before .before .before .loop in
+    let links = take (start .args .link-count) (start .args .links) in
+    let s = now (start .args .file) in
+    let read = c .before .before .before .before .demand-in in
+    let field = sym (c .before .before .before .before .before .enum-told .given .1) ∙ c .before .before .before .before .before .before .before .check-field .ensures in
+    let sound = demand-here (start .args .slots) links s (start .args .start) (turn .at) (turn .count) (turn .demands) (turn .idents) (turn .inv) (read .result) (read .ensures) field (sym (c .enum-told2 .given .1) ∙ c .before .before .check-new-demand .ensures) in
+    let room = demand-room (start .args .slots) links s (start .args .start) (turn .at) (turn .count) (turn .demands) (turn .idents) (turn .inv) sound in
     omega arith
 
 add-at : tie.Need-add-at Inv-loop μ-loop
 add-at c =
-    let next = demands-step (c .before .before .before .before .before .before .before .before .before .before .before .before .args .slots) (take (c .before .before .before .before .before .before .before .before .before .before .before .before .args .link-count) (c .before .before .before .before .before .before .before .before .before .before .before .before .args .links)) (now (c .before .before .before .before .before .before .before .before .before .before .before .before .args .file)) (c .before .before .before .before .before .before .before .before .before .before .before .before .args .start) (c .before .before .before .before .before .before .before .before .before .loop .at) (c .before .before .before .before .before .before .before .before .before .loop .count) (c .before .before .before .before .before .before .before .before .before .loop .demands) (c .before .before .before .before .before .before .before .before .before .loop .idents) (c .before .before .before .before .before .before .before .before .before .loop .inv) (c .before .before .before .before .demand-in .result) (c .before .before .before .before .demand-in .ensures) (λ done. omega arith) (demand-here (c .before .before .before .before .before .before .before .before .before .before .before .before .args .slots) (take (c .before .before .before .before .before .before .before .before .before .before .before .before .args .link-count) (c .before .before .before .before .before .before .before .before .before .before .before .before .args .links)) (now (c .before .before .before .before .before .before .before .before .before .before .before .before .args .file)) (c .before .before .before .before .before .before .before .before .before .before .before .before .args .start) (c .before .before .before .before .before .before .before .before .before .loop .at) (c .before .before .before .before .before .before .before .before .before .loop .count) (c .before .before .before .before .before .before .before .before .before .loop .demands) (c .before .before .before .before .before .before .before .before .before .loop .idents) (c .before .before .before .before .before .before .before .before .before .loop .inv) (c .before .before .before .before .demand-in .result) (c .before .before .before .before .demand-in .ensures) (sym (c .before .before .before .before .before .enum-told .given .1) ∙ c .before .before .before .before .before .before .before .check-field .ensures) (sym (c .enum-told2 .given .1) ∙ c .before .before .check-new-demand .ensures)) in
+    let start = c .before .before .before .before .before .before .before .before .before .before .before .before in
+    let turn = c .before .before .before .before .before .before .before .before .before .loop in
+    let links = take (start .args .link-count) (start .args .links) in
+    let s = now (start .args .file) in
+    let read = c .before .before .before .before .demand-in in
+    let field = sym (c .before .before .before .before .before .enum-told .given .1) ∙ c .before .before .before .before .before .before .before .check-field .ensures in
+    let sound = demand-here (start .args .slots) links s (start .args .start) (turn .at) (turn .count) (turn .demands) (turn .idents) (turn .inv) (read .result) (read .ensures) field (sym (c .enum-told2 .given .1) ∙ c .before .before .check-new-demand .ensures) in
+    let next = demands-step (start .args .slots) links s (start .args .start) (turn .at) (turn .count) (turn .demands) (turn .idents) (turn .inv) (read .result) (read .ensures) (λ done. omega arith) sound in
     omega (arith, next .within)
 
 add-at-2 : tie.Need-add-at-2 Inv-loop μ-loop
 add-at-2 c =
-    let next = demands-step (c .before .before .before .before .before .before .before .before .before .before .before .before .before .args .slots) (take (c .before .before .before .before .before .before .before .before .before .before .before .before .before .args .link-count) (c .before .before .before .before .before .before .before .before .before .before .before .before .before .args .links)) (now (c .before .before .before .before .before .before .before .before .before .before .before .before .before .args .file)) (c .before .before .before .before .before .before .before .before .before .before .before .before .before .args .start) (c .before .before .before .before .before .before .before .before .before .before .loop .at) (c .before .before .before .before .before .before .before .before .before .before .loop .count) (c .before .before .before .before .before .before .before .before .before .before .loop .demands) (c .before .before .before .before .before .before .before .before .before .before .loop .idents) (c .before .before .before .before .before .before .before .before .before .before .loop .inv) (c .before .before .before .before .before .demand-in .result) (c .before .before .before .before .before .demand-in .ensures) (λ done. omega arith) (demand-here (c .before .before .before .before .before .before .before .before .before .before .before .before .before .args .slots) (take (c .before .before .before .before .before .before .before .before .before .before .before .before .before .args .link-count) (c .before .before .before .before .before .before .before .before .before .before .before .before .before .args .links)) (now (c .before .before .before .before .before .before .before .before .before .before .before .before .before .args .file)) (c .before .before .before .before .before .before .before .before .before .before .before .before .before .args .start) (c .before .before .before .before .before .before .before .before .before .before .loop .at) (c .before .before .before .before .before .before .before .before .before .before .loop .count) (c .before .before .before .before .before .before .before .before .before .before .loop .demands) (c .before .before .before .before .before .before .before .before .before .before .loop .idents) (c .before .before .before .before .before .before .before .before .before .before .loop .inv) (c .before .before .before .before .before .demand-in .result) (c .before .before .before .before .before .demand-in .ensures) (sym (c .before .before .before .before .before .before .enum-told .given .1) ∙ c .before .before .before .before .before .before .before .before .check-field .ensures) (sym (c .before .enum-told2 .given .1) ∙ c .before .before .before .check-new-demand .ensures)) in
+    let start = c .before .before .before .before .before .before .before .before .before .before .before .before .before in
+    let turn = c .before .before .before .before .before .before .before .before .before .before .loop in
+    let links = take (start .args .link-count) (start .args .links) in
+    let s = now (start .args .file) in
+    let read = c .before .before .before .before .before .demand-in in
+    let field = sym (c .before .before .before .before .before .before .enum-told .given .1) ∙ c .before .before .before .before .before .before .before .before .check-field .ensures in
+    let sound = demand-here (start .args .slots) links s (start .args .start) (turn .at) (turn .count) (turn .demands) (turn .idents) (turn .inv) (read .result) (read .ensures) field (sym (c .before .enum-told2 .given .1) ∙ c .before .before .before .check-new-demand .ensures) in
+    let next = demands-step (start .args .slots) links s (start .args .start) (turn .at) (turn .count) (turn .demands) (turn .idents) (turn .inv) (read .result) (read .ensures) (λ done. omega arith) sound in
     omega (arith, next .within)
 
 loop-less : tie.Need-loop-less Inv-loop μ-loop
 loop-less c =
-    let next = demands-step (c .before .before .before .before .before .before .before .before .before .before .before .before .before .args .slots) (take (c .before .before .before .before .before .before .before .before .before .before .before .before .before .args .link-count) (c .before .before .before .before .before .before .before .before .before .before .before .before .before .args .links)) (now (c .before .before .before .before .before .before .before .before .before .before .before .before .before .args .file)) (c .before .before .before .before .before .before .before .before .before .before .before .before .before .args .start) (c .before .before .before .before .before .before .before .before .before .before .loop .at) (c .before .before .before .before .before .before .before .before .before .before .loop .count) (c .before .before .before .before .before .before .before .before .before .before .loop .demands) (c .before .before .before .before .before .before .before .before .before .before .loop .idents) (c .before .before .before .before .before .before .before .before .before .before .loop .inv) (c .before .before .before .before .before .demand-in .result) (c .before .before .before .before .before .demand-in .ensures) (λ done. omega arith) (demand-here (c .before .before .before .before .before .before .before .before .before .before .before .before .before .args .slots) (take (c .before .before .before .before .before .before .before .before .before .before .before .before .before .args .link-count) (c .before .before .before .before .before .before .before .before .before .before .before .before .before .args .links)) (now (c .before .before .before .before .before .before .before .before .before .before .before .before .before .args .file)) (c .before .before .before .before .before .before .before .before .before .before .before .before .before .args .start) (c .before .before .before .before .before .before .before .before .before .before .loop .at) (c .before .before .before .before .before .before .before .before .before .before .loop .count) (c .before .before .before .before .before .before .before .before .before .before .loop .demands) (c .before .before .before .before .before .before .before .before .before .before .loop .idents) (c .before .before .before .before .before .before .before .before .before .before .loop .inv) (c .before .before .before .before .before .demand-in .result) (c .before .before .before .before .before .demand-in .ensures) (sym (c .before .before .before .before .before .before .enum-told .given .1) ∙ c .before .before .before .before .before .before .before .before .check-field .ensures) (sym (c .before .enum-told2 .given .1) ∙ c .before .before .before .check-new-demand .ensures)) in
+    let start = c .before .before .before .before .before .before .before .before .before .before .before .before .before in
+    let turn = c .before .before .before .before .before .before .before .before .before .before .loop in
+    let links = take (start .args .link-count) (start .args .links) in
+    let s = now (start .args .file) in
+    let read = c .before .before .before .before .before .demand-in in
+    let field = sym (c .before .before .before .before .before .before .enum-told .given .1) ∙ c .before .before .before .before .before .before .before .before .check-field .ensures in
+    let sound = demand-here (start .args .slots) links s (start .args .start) (turn .at) (turn .count) (turn .demands) (turn .idents) (turn .inv) (read .result) (read .ensures) field (sym (c .before .enum-told2 .given .1) ∙ c .before .before .before .check-new-demand .ensures) in
+    let next = demands-step (start .args .slots) links s (start .args .start) (turn .at) (turn .count) (turn .demands) (turn .idents) (turn .inv) (read .result) (read .ensures) (λ done. omega arith) sound in
     omega (arith, next .within)
 
 loop-again : tie.Need-loop-again Inv-loop μ-loop
-loop-again c = demands-step (c .before .before .before .before .before .before .before .before .before .before .before .before .before .args .slots) (take (c .before .before .before .before .before .before .before .before .before .before .before .before .before .args .link-count) (c .before .before .before .before .before .before .before .before .before .before .before .before .before .args .links)) (now (c .before .before .before .before .before .before .before .before .before .before .before .before .before .args .file)) (c .before .before .before .before .before .before .before .before .before .before .before .before .before .args .start) (c .before .before .before .before .before .before .before .before .before .before .loop .at) (c .before .before .before .before .before .before .before .before .before .before .loop .count) (c .before .before .before .before .before .before .before .before .before .before .loop .demands) (c .before .before .before .before .before .before .before .before .before .before .loop .idents) (c .before .before .before .before .before .before .before .before .before .before .loop .inv) (c .before .before .before .before .before .demand-in .result) (c .before .before .before .before .before .demand-in .ensures) (λ done. omega arith) (demand-here (c .before .before .before .before .before .before .before .before .before .before .before .before .before .args .slots) (take (c .before .before .before .before .before .before .before .before .before .before .before .before .before .args .link-count) (c .before .before .before .before .before .before .before .before .before .before .before .before .before .args .links)) (now (c .before .before .before .before .before .before .before .before .before .before .before .before .before .args .file)) (c .before .before .before .before .before .before .before .before .before .before .before .before .before .args .start) (c .before .before .before .before .before .before .before .before .before .before .loop .at) (c .before .before .before .before .before .before .before .before .before .before .loop .count) (c .before .before .before .before .before .before .before .before .before .before .loop .demands) (c .before .before .before .before .before .before .before .before .before .before .loop .idents) (c .before .before .before .before .before .before .before .before .before .before .loop .inv) (c .before .before .before .before .before .demand-in .result) (c .before .before .before .before .before .demand-in .ensures) (sym (c .before .before .before .before .before .before .enum-told .given .1) ∙ c .before .before .before .before .before .before .before .before .check-field .ensures) (sym (c .before .enum-told2 .given .1) ∙ c .before .before .before .check-new-demand .ensures))
+loop-again c =
+    let start = c .before .before .before .before .before .before .before .before .before .before .before .before .before in
+    let turn = c .before .before .before .before .before .before .before .before .before .before .loop in
+    let links = take (start .args .link-count) (start .args .links) in
+    let s = now (start .args .file) in
+    let read = c .before .before .before .before .before .demand-in in
+    let field = sym (c .before .before .before .before .before .before .enum-told .given .1) ∙ c .before .before .before .before .before .before .before .before .check-field .ensures in
+    let sound = demand-here (start .args .slots) links s (start .args .start) (turn .at) (turn .count) (turn .demands) (turn .idents) (turn .inv) (read .result) (read .ensures) field (sym (c .before .enum-told2 .given .1) ∙ c .before .before .before .check-new-demand .ensures) in
+    demands-step (start .args .slots) links s (start .args .start) (turn .at) (turn .count) (turn .demands) (turn .idents) (turn .inv) (read .result) (read .ensures) (λ done. omega arith) sound
 
 returns-3 : tie.Need-returns-3 Inv-loop μ-loop
-returns-3 c = demands-finish (c .before .before .before .before .args .slots) (take (c .before .before .before .before .args .link-count) (c .before .before .before .before .args .links)) (now (c .before .before .before .before .args .file)) (c .before .before .before .before .args .start) (c .before .loop .at) (c .before .loop .count) (c .before .loop .demands) (c .before .loop .idents) (c .before .loop .inv) (omega (arith, c .before .loop .inv .within))
+returns-3 c =
+    let start = c .before .before .before .before in
+    let turn = c .before .loop in
+    let links = take (start .args .link-count) (start .args .links) in
+    let s = now (start .args .file) in
+    demands-finish (start .args .slots) links s (start .args .start) (turn .at) (turn .count) (turn .demands) (turn .idents) (turn .inv) (omega (arith, turn .inv .within))
 
 pub read-demands-spec : {M : Type 1} → statement M
 read-demands-spec =

@@ -5,7 +5,7 @@ use native.Mathlib.Omega.{arith}
 use borrow.Author.Needs.{needs}
 use denote.Ref.{now}
 use Rattle.request.specs.View.{noLink}
-use Rattle.request.specs.LinksLaws.{LinksSoFar, link-holds, links-begin, links-finish, links-fail, links-step, refused-count}
+use Rattle.request.specs.LinksLaws.{LinksSoFar, link-holds, links-begin, links-finish, links-fail, links-step, refused-end}
 use Rattle.request.proofs.read.read_links.Statement.{statement}
 use Rattle.request.proofs.read.read_links.Tie as tie
 
@@ -23,7 +23,10 @@ links-end-requires : tie.Need-links-end-requires Inv-loop μ-loop
 links-end-requires c κs = c .loop .inv .within
 
 returns : tie.Need-returns Inv-loop μ-loop
-returns c = (links-finish (now (c .before .before .before .before .args .file)) (c .before .before .loop .at) (c .before .before .loop .count) (c .before .before .loop .links) (c .before .before .loop .inv) (sym (c .before .links-end .ensures) ∙ c .if1 .taken), (c .before .before .loop .inv .few, c .before .before .loop .inv .within))
+returns c =
+    let start = c .before .before .before .before in
+    let turn = c .before .before .loop in
+    (links-finish (now (start .args .file)) (turn .at) (turn .count) (turn .links) (turn .inv) (sym (c .before .links-end .ensures) ∙ c .if1 .taken), turn .inv .within)
 
 check-link-field-requires : tie.Need-check-link-field-requires Inv-loop μ-loop
 check-link-field-requires c κs = c .before .before .loop .inv .within
@@ -36,55 +39,70 @@ no-links-requires c κs = search needs
 
 returns-2 : tie.Need-returns-2 Inv-loop μ-loop
 returns-2 c =
-    let same = c .no-links .ensures ∙
-    links-fail (now (c .before .before .before .before .before .before .before .before .before .args .file)) (c .before .before .before .before .before .before .before .loop .at) (c .before .before .before .before .before .before .before .loop .count) (c .before .before .before .before .before .before .before .loop .links) (c .before .before .before .before .before .before .before .loop .inv) (sym (c .before .before .before .before .before .before .links-end .ensures) ∙ c .before .before .before .before .before .if1 .left)
+    let start = c .before .before .before .before .before .before .before .before .before in
+    let turn = c .before .before .before .before .before .before .before .loop in
+    let fault = links-fail (now (start .args .file)) (turn .at) (turn .count) (turn .links) (turn .inv) (sym (c .before .before .before .before .before .before .links-end .ensures) ∙ c .before .before .before .before .before .if1 .left)
     (sym (c .before .before .answer .given .1) ∙ c .before .before .before .before .check-link-field .ensures) in
-    (same, refused-count (c .no-links .result) _ _ (c .no-links .ensures))
+    (c .no-links .ensures ∙ fault, refused-end (c .no-links .result) _ _ (c .no-links .ensures))
 
 enum-told : tie.Need-enum-told Inv-loop μ-loop
 enum-told c = search needs
 
 link-in-requires : tie.Need-link-in-requires Inv-loop μ-loop
 link-in-requires c κs =
-    let holds = link-holds (now (c .before .before .before .before .before .before .before .args .file)) (c .before .before .before .before .before .loop .at) (c .before .before .before .before .before .loop .count) (sym (c .before .before .check-link-field .ensures) ∙ c .enum-told .given .1) in
+    let start = c .before .before .before .before .before .before .before in
+    let turn = c .before .before .before .before .before .loop in
+    let holds = link-holds (now (start .args .file)) (turn .at) (turn .count) (sym (c .before .before .check-link-field .ensures) ∙ c .enum-told .given .1) in
     let field = holds .field in
     omega arith
 
 mul-links : tie.Need-mul-links Inv-loop μ-loop
 mul-links c =
-    let holds = link-holds (now (c .before .before .before .before .before .before .before .before .args .file)) (c .before .before .before .before .before .before .loop .at) (c .before .before .before .before .before .before .loop .count) (sym (c .before .before .before .check-link-field .ensures) ∙ c .before .enum-told .given .1) in
+    let start = c .before .before .before .before .before .before .before .before in
+    let turn = c .before .before .before .before .before .before .loop in
+    let holds = link-holds (now (start .args .file)) (turn .at) (turn .count) (sym (c .before .before .before .check-link-field .ensures) ∙ c .before .enum-told .given .1) in
     let field = holds .field in
     omega arith
 
 array-set-from-links : tie.Need-array-set-from-links Inv-loop μ-loop
 array-set-from-links c =
-    let holds = link-holds (now (c .before .before .before .before .before .before .before .before .args .file)) (c .before .before .before .before .before .before .loop .at) (c .before .before .before .before .before .before .loop .count) (sym (c .before .before .before .check-link-field .ensures) ∙ c .before .enum-told .given .1) in
+    let start = c .before .before .before .before .before .before .before .before in
+    let turn = c .before .before .before .before .before .before .loop in
+    let holds = link-holds (now (start .args .file)) (turn .at) (turn .count) (sym (c .before .before .before .check-link-field .ensures) ∙ c .before .enum-told .given .1) in
     let field = holds .field in
     omega arith
 
 add-count : tie.Need-add-count Inv-loop μ-loop
 add-count c =
-    let holds = link-holds (now (c .before .before .before .before .before .before .before .before .args .file)) (c .before .before .before .before .before .before .loop .at) (c .before .before .before .before .before .before .loop .count) (sym (c .before .before .before .check-link-field .ensures) ∙ c .before .enum-told .given .1) in
+    let start = c .before .before .before .before .before .before .before .before in
+    let turn = c .before .before .before .before .before .before .loop in
+    let holds = link-holds (now (start .args .file)) (turn .at) (turn .count) (sym (c .before .before .before .check-link-field .ensures) ∙ c .before .enum-told .given .1) in
     let field = holds .field in
     omega arith
 
 add-at : tie.Need-add-at Inv-loop μ-loop
 add-at c =
-    let holds = link-holds (now (c .before .before .before .before .before .before .before .before .args .file)) (c .before .before .before .before .before .before .loop .at) (c .before .before .before .before .before .before .loop .count) (sym (c .before .before .before .check-link-field .ensures) ∙ c .before .enum-told .given .1) in
+    let start = c .before .before .before .before .before .before .before .before in
+    let turn = c .before .before .before .before .before .before .loop in
+    let holds = link-holds (now (start .args .file)) (turn .at) (turn .count) (sym (c .before .before .before .check-link-field .ensures) ∙ c .before .enum-told .given .1) in
     let field = holds .field in
     omega arith
 
 loop-less : tie.Need-loop-less Inv-loop μ-loop
 loop-less c =
-    let holds = link-holds (now (c .before .before .before .before .before .before .before .before .args .file)) (c .before .before .before .before .before .before .loop .at) (c .before .before .before .before .before .before .loop .count) (sym (c .before .before .before .check-link-field .ensures) ∙ c .before .enum-told .given .1) in
+    let start = c .before .before .before .before .before .before .before .before in
+    let turn = c .before .before .before .before .before .before .loop in
+    let holds = link-holds (now (start .args .file)) (turn .at) (turn .count) (sym (c .before .before .before .check-link-field .ensures) ∙ c .before .enum-told .given .1) in
     let field = holds .field in
     omega arith
 
 loop-again : tie.Need-loop-again Inv-loop μ-loop
 loop-again c =
-    let step = links-step (now (c .before .before .before .before .before .before .before .before .args .file)) (c .before .before .before .before .before .before .loop .at) (c .before .before .before .before .before .before .loop .count) (c .before .before .before .before .before .before .loop .links) (c .before .before .before .before .before .before .loop .inv) (sym (c .before .before .before .before .before .links-end .ensures) ∙ c .before .before .before .before .if1 .left)
-    (sym (c .before .enum-told .given .1) ∙ c .before .before .before .check-link-field .ensures) in
-    rw (c .link-in .ensures) step
+    let start = c .before .before .before .before .before .before .before .before in
+    let turn = c .before .before .before .before .before .before .loop in
+    rw (c .link-in .ensures)
+    (links-step (now (start .args .file)) (turn .at) (turn .count) (turn .links) (turn .inv) (sym (c .before .before .before .before .before .links-end .ensures) ∙ c .before .before .before .before .if1 .left)
+    (sym (c .before .enum-told .given .1) ∙ c .before .before .before .check-link-field .ensures))
 
 pub read-links-spec : {M : Type 1} → statement M
 read-links-spec =

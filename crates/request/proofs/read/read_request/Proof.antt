@@ -49,7 +49,12 @@ refused-requires-3 : tie.Need-refused-requires-3
 refused-requires-3 c κs = search needs
 
 returns-3 : tie.Need-returns-3
-returns-3 c = c .refused3 .ensures ∙ ap packReading (sym (file-links-fault (now (c .before .before .before .before .before .before .before .before .before .before .before .args .file)) (omega arith) (sym (c .before .before .before .before .before .before .enum-told .given .1) ∙ c .before .before .before .before .before .before .before .before .check-band-field .ensures) (c .before .before .before .before .read-links .result) (c .before .before .before .before .read-links .ensures .0) (sym (c .before .before .links-verdict .given .1))))
+returns-3 c =
+    let s = now (c .before .before .before .before .before .before .before .before .before .before .before .args .file) in
+    let sound = sym (c .before .before .before .before .before .before .enum-told .given .1) ∙ c .before .before .before .before .before .before .before .before .check-band-field .ensures in
+    let short = c .before .before .before .before .before .before .before .before .before .if1 .left in
+    let found = c .before .before .before .before .read-links in
+    c .refused3 .ensures ∙ ap packReading (sym (file-links-fault s short sound (found .result) (found .ensures .0) (sym (c .before .before .links-verdict .given .1))))
 
 enum-told-2 : tie.Need-enum-told-2
 enum-told-2 c = search needs
@@ -65,25 +70,32 @@ refused-requires-4 c κs = search needs
 
 returns-4 : tie.Need-returns-4
 returns-4 c =
+    let s = now (c .before .before .before .before .before .before .before .before .before .before .before .before .before .before .before .args .file) in
+    let sound = sym (c .before .before .before .before .before .before .before .before .before .before .enum-told .given .1) ∙ c .before .before .before .before .before .before .before .before .before .before .before .before .check-band-field .ensures in
+    let short = c .before .before .before .before .before .before .before .before .before .before .before .before .before .if1 .left in
+    let found = c .before .before .before .before .before .before .before .before .read-links in
+    let links = take (found .result .count) (found .result .links) in
+    let asked = c .before .before .before .before .read-demands in
+    let read = asked .ensures ∙ ap (λ (b : Band). packDemands (readDemands 201 (b .slots) links s (found .result .end) [])) (c .before .before .before .before .before .before .before .before .before .band-in .ensures) in
     c .refused4 .ensures ∙
-    ap packReading
-    (sym (file-demands-fault (now (c .before .before .before .before .before .before .before .before .before .before .before .before .before .before .before .args .file)) (omega arith) (sym (c .before .before .before .before .before .before .before .before .before .before .enum-told .given .1) ∙ c .before .before .before .before .before .before .before .before .before .before .before .before .check-band-field .ensures) (c .before .before .before .before .before .before .before .before .read-links .result) (c .before .before .before .before .before .before .before .before .read-links .ensures .0) (sym (c .before .before .before .before .before .before .enum-told2 .given .1)) (c .before .before .before .before .read-demands .result)
-    (c .before .before .before .before .read-demands .ensures ∙ ap (λ (b : Band). packDemands (readDemands 201 (b .slots) (take (c .before .before .before .before .before .before .before .before .read-links .result .count) (c .before .before .before .before .before .before .before .before .read-links .result .links)) (now (c .before .before .before .before .before .before .before .before .before .before .before .before .before .before .before .args .file)) (c .before .before .before .before .before .before .before .before .read-links .result .end) [])) (c .before .before .before .before .before .before .before .before .before .band-in .ensures))
-    (sym (c .before .before .demands-verdict .given .1))))
+    ap packReading (sym (file-demands-fault s short sound (found .result) (found .ensures .0) (sym (c .before .before .before .before .before .before .enum-told2 .given .1)) (asked .result) read (sym (c .before .before .demands-verdict .given .1))))
 
 enum-told-3 : tie.Need-enum-told-3
 enum-told-3 c = search needs
 
 returns-5 : tie.Need-returns-5
 returns-5 c =
-    let found = c .before .before .before .before .before .before .before .read-links .result in
-    let asked = c .before .before .before .read-demands .result in
+    let s = now (c .before .before .before .before .before .before .before .before .before .before .before .before .before .before .args .file) in
+    let sound = sym (c .before .before .before .before .before .before .before .before .before .enum-told .given .1) ∙ c .before .before .before .before .before .before .before .before .before .before .before .check-band-field .ensures in
+    let short = c .before .before .before .before .before .before .before .before .before .before .before .before .if1 .left in
+    let found = c .before .before .before .before .before .before .before .read-links in
+    let links = take (found .result .count) (found .result .links) in
+    let asked = c .before .before .before .read-demands in
+    let read = asked .ensures ∙ ap (λ (b : Band). packDemands (readDemands 201 (b .slots) links s (found .result .end) [])) (c .before .before .before .before .before .before .before .before .band-in .ensures) in
     ap {B = Reading}
-    (λ (b : Band). record { verdict = Sound; request = record { band = b; «link_count» = found .count; links = found .links; «demand_count» = asked .count; demands = asked .demands } })
+    (λ (b : Band). record { verdict = Sound; request = record { band = b; «link_count» = found .result .count; links = found .result .links; «demand_count» = asked .result .count; demands = asked .result .demands } })
     (c .before .before .before .before .before .before .before .before .band-in .ensures) ∙
-    file-request (now (c .before .before .before .before .before .before .before .before .before .before .before .before .before .before .args .file)) (omega arith) (sym (c .before .before .before .before .before .before .before .before .before .enum-told .given .1) ∙ c .before .before .before .before .before .before .before .before .before .before .before .check-band-field .ensures) (c .before .before .before .before .before .before .before .read-links .result) (c .before .before .before .before .before .before .before .read-links .ensures .0) (sym (c .before .before .before .before .before .enum-told2 .given .1)) asked
-    (c .before .before .before .read-demands .ensures ∙ ap (λ (b : Band). packDemands (readDemands 201 (b .slots) (take (c .before .before .before .before .before .before .before .read-links .result .count) (c .before .before .before .before .before .before .before .read-links .result .links)) (now (c .before .before .before .before .before .before .before .before .before .before .before .before .before .before .args .file)) (c .before .before .before .before .before .before .before .read-links .result .end) [])) (c .before .before .before .before .before .before .before .before .band-in .ensures))
-    (sym (c .before .enum-told3 .given .1))
+    file-request s short sound (found .result) (found .ensures .0) (sym (c .before .before .before .before .before .enum-told2 .given .1)) (asked .result) read (sym (c .before .enum-told3 .given .1))
 
 pub read-request-spec : {M : Type 1} → statement M
 read-request-spec =
