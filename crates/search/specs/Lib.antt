@@ -14,3 +14,9 @@ pub mod TallyLaws
 pub mod StepLaws
 pub mod Told
 pub mod StartLaws
+pub mod Reply
+pub mod Demand3
+pub mod Demand3Laws
+pub mod ReplyLaws
+pub mod Found
+pub mod FoundLaws

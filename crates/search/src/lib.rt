@@ -1,4 +1,5 @@
 // The search for the lowest end: the tree of partial orders, walked depth first.
+use refusal::Refusal;
 ghost use mathlib.Core.Path.{_≡_};
 ghost use mathlib.Core.Bool.{cond};
 ghost use mathlib.Core.List.{[]};
@@ -13,6 +14,41 @@ ghost use Rattle.search.specs.Scan.{lookPast, FirstClear};
 ghost use Rattle.search.specs.Kept.{Sized, Ready, Mendable, Mended, Brought};
 ghost use Rattle.search.specs.Told.{Told};
 ghost use Rattle.search.specs.Tries.{reachedAt, triedFrom, goneInto, Counting};
+
+mod call;
+
+pub use call::search;
+
+// How a search came out: finished with the lowest end, nothing fits, or stopped for want of steps, with the best end met or with none.
+pub enum Outcome {
+    Finished(u16),
+    NothingFits,
+    Unfinished(u16),
+    UnfinishedEmpty,
+}
+
+// What a search answers: how it came out, the bound, the steps taken, the orders reached and the orders ruled out.
+pub struct Answer {
+    pub outcome: Outcome,
+    pub bound: u32,
+    pub steps: u32,
+    pub reached: u64,
+    pub ruled: u64,
+}
+
+// An answer, or why there is none.
+pub enum SearchReply {
+    Answered(Answer),
+    Refused(Refusal),
+}
+
+// What a search found: its answer and, where there is a plan, its starts and its order.
+struct Found {
+    answer: Answer,
+    plan: bool,
+    starts: [u16; 20],
+    order: [u16; 20],
+}
 
 // What a walk over the orders answers: its counts, the mark it leaves, whether a step was due with none left, and whether a plan was
 // met; of a plan the starts by listing position and the order.

@@ -1,0 +1,2 @@
+-- What proofs about the search share.
+pub mod Arrays

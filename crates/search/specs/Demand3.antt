@@ -1,0 +1,92 @@
+-- Is this the best there is? What a search's answer promises about a request, in the planner's words: plans are lists of starts by
+-- listing position, an order lists each position once, and nothing of the walk is left but its counts.
+use Prim.Native.Nat.{ℕ, _+_, _≤_, _<_}
+use mathlib.Core.List.{List, [], _∷_, _++_, List·Memᴰ}
+use mathlib.Core.Logic.{_≢_}
+use mathlib.Core.Path.{_≡_}
+use lib.ListN.{length}
+use Rattle.theory.specs.Arrange.{Arrange}
+use Rattle.theory.specs.Earlier.{Lower}
+use Rattle.theory.specs.Orders.{factorial, orders, listing}
+use Rattle.theory.specs.Problem.{fill, top}
+use Rattle.request.specs.View.{View}
+use Rattle.placing.specs.Placing.{problemOf, boundOf}
+use Rattle.placing.specs.Plan.{AllowedPlan, endOfPlan}
+use Rattle.search.specs.declared.Outcome.{Outcome}
+use Rattle.search.specs.declared.Outcome.the-variants.{Finished, NothingFits, Unfinished, UnfinishedEmpty}
+use Rattle.search.specs.declared.Answer.{Answer}
+use Rattle.search.specs.Reply.{startsOf}
+
+-- an order of a request lists each listing position once
+unfoldable pub OrderOf : View → List ℕ → Type 0
+OrderOf v order = Arrange order (listing (v .demandCount))
+
+-- the end that first fit reaches in an order, with no upper limit
+unfoldable pub endInOrder : View → List ℕ → ℕ
+endInOrder v order = top (problemOf v) (fill (problemOf v) [] order)
+
+-- the plan shown: it is allowed and ends at e inside the band, and it is what first fit gives in the order shown
+pub record PlanShown (v : View) (e : ℕ) (starts order : List ℕ) : Type 0 where
+  pub allowed : AllowedPlan v starts
+  pub ends : endOfPlan v starts ≡ e
+  pub in-band : e ≤ v .band .slots
+  pub an-order : OrderOf v order
+  pub by-first-fit : starts ≡ startsOf (v .demandCount) (fill (problemOf v) [] order)
+
+-- no allowed plan whatsoever, first-fit or otherwise, has a lower end
+unfoldable pub NoneLower : View → ℕ → Type 0
+NoneLower v e = (other : List ℕ) → AllowedPlan v other → e ≤ endOfPlan v other
+
+-- how many orders come before this one, in listing order
+pub record Rank (v : View) (order : List ℕ) (before : ℕ) : Type 0 where
+  pub earlier : List (List ℕ)
+  pub later : List (List ℕ)
+  pub stands : orders (listing (v .demandCount)) ≡ earlier ++ (order ∷ later)
+  pub counted : length earlier ≡ before
+
+-- finished: this is the best there is. The order shown is the first in listing order that reaches the end. Where the end meets the
+-- bound, the orders reached or ruled out are those up to the order shown; else they are all K!
+pub record BestThereIs (v : View) (a : Answer) (e : ℕ) (starts order : List ℕ) : Type 0 where
+  pub shown : PlanShown v e starts order
+  pub none-lower : NoneLower v e
+  pub first : (other : List ℕ) → OrderOf v other → Lower other order → e < endInOrder v other
+  pub before : ℕ
+  pub rank : Rank v order before
+  pub sum-at-bound : e ≡ boundOf v → a .reached + a .ruled ≡ before + 1
+  pub sum-above-bound : e ≢ boundOf v → a .reached + a .ruled ≡ factorial (v .demandCount)
+
+-- nothing fits: no allowed plan exists inside the band, and all K! orders were reached or ruled out
+pub record NoPlanExists (v : View) (a : Answer) : Type 0 where
+  pub none : (plan : List ℕ) → AllowedPlan v plan → ⊥
+  pub sum : a .reached + a .ruled ≡ factorial (v .demandCount)
+
+-- stopped: exactly the stated steps were used up, and the orders met are the first ones in listing order, not all of them
+pub record StepsUsedUp (v : View) (limit : ℕ) (a : Answer) (orders-met : List (List ℕ)) : Type 0 where
+  pub steps-used : a .steps ≡ limit
+  pub orders-left : List (List ℕ)
+  pub first-ones : orders (listing (v .demandCount)) ≡ orders-met ++ orders-left
+  pub sum : a .reached + a .ruled ≡ length orders-met
+  pub not-all : a .reached + a .ruled < factorial (v .demandCount)
+
+-- unfinished with a plan: the best that the orders met give, and the first of its kind; its end lies above the bound and inside the band
+pub record BestSoFar (v : View) (limit : ℕ) (a : Answer) (e : ℕ) (starts order : List ℕ) : Type 0 where
+  pub orders-met : List (List ℕ)
+  pub stopped : StepsUsedUp v limit a orders-met
+  pub shown : PlanShown v e starts order
+  pub met-it : List·Memᴰ order orders-met
+  pub best-met : (other : List ℕ) → List·Memᴰ other orders-met → e ≤ endInOrder v other
+  pub first : (other : List ℕ) → List·Memᴰ other orders-met → Lower other order → e < endInOrder v other
+  pub above-bound : boundOf v < e
+
+-- unfinished without a plan: none of the orders met stays inside the band
+pub record NoneSoFar (v : View) (limit : ℕ) (a : Answer) : Type 0 where
+  pub orders-met : List (List ℕ)
+  pub stopped : StepsUsedUp v limit a orders-met
+  pub none-met : (other : List ℕ) → List·Memᴰ other orders-met → v .band .slots < endInOrder v other
+
+-- what each outcome promises
+unfoldable pub Promised : View → ℕ → Answer → List ℕ → List ℕ → Outcome → Type 0
+Promised v limit a starts order (Finished e) = BestThereIs v a e starts order
+Promised v limit a starts order NothingFits = NoPlanExists v a
+Promised v limit a starts order (Unfinished e) = BestSoFar v limit a e starts order
+Promised v limit a starts order UnfinishedEmpty = NoneSoFar v limit a

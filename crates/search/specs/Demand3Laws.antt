@@ -1,0 +1,237 @@
+-- The search keeps its promises: whatever it answers about a sound request holds.
+use Prim.Native.Nat.{ℕ, zero, suc, _+_, _≤_, _<_}
+use mathlib.Core.Bool.{true}
+use mathlib.Core.List.{List, [], _∷_, _++_, map, append-assoc, List·Memᴰ, List·Memᴰ·cases-cons, List·Memᴰ·append-cases, List·Memᴰ·head, Memᴰ·append-left, Memᴰ·append-right}
+use mathlib.Core.Logic.{⊎-elim}
+use mathlib.Core.Path.{_≡_, refl, sym, subst, ap, _∙_}
+use native.Mathlib.Omega.{arith}
+use lib.ListN.{length, getD}
+use Rattle.theory.specs.Earlier.{Lower}
+use Rattle.theory.specs.Orders.{factorial, orders, countUp, listing}
+use Rattle.theory.specs.OrdersLaws.{orders-arrange, earlier-listed-before}
+use Rattle.theory.specs.ListingLaws.{listing-below, listing-length, listing-no-repeats, listing-rising}
+use Rattle.theory.specs.Arrange.{Arrange}
+use Rattle.theory.specs.ArrangeLaws.{arrange-mem}
+use Rattle.theory.specs.EarlierLaws.{lower-earlier}
+use Rattle.theory.specs.AlikeLaws.{planEnd-alike, allowed-alike}
+use Rattle.theory.specs.Problem.{Problem, Row, fill, top, startIn, Allowed, planEnd}
+use Rattle.theory.specs.ProblemLaws.{top-nil}
+use Rattle.theory.specs.Tried.{endsAt, FirstLowest}
+use Rattle.theory.specs.Walk.{Best, none-met, met}
+use Rattle.theory.specs.Search as theory
+use Rattle.theory.specs.Promises as promises
+use Rattle.theory.specs.SearchLaws.{search-promise}
+use Rattle.request.specs.declared.Request.{Request}
+use Rattle.request.specs.declared.Checked.the-variants.{Sound}
+use Rattle.request.specs.View.{View, view, demandAt}
+use Rattle.request.specs.Check.{check}
+use Rattle.request.specs.Whole.{Whole}
+use Rattle.request.specs.LimitsLaws.{checked-limits}
+use Rattle.request.specs.SoundLaws.{check-sound, whole-counted}
+use Rattle.request.specs.Sound.{SoundRequest}
+use Rattle.placing.specs.Placing.{problemOf, boundOf}
+use Rattle.placing.specs.Plan.{startAt, AllowedPlan, endOfPlan}
+use Rattle.placing.specs.PlanLaws.{slots-to-ends, ends-to-slots, share-swap}
+use Rattle.placing.specs.BoundLaws.{bound-below}
+use Rattle.placing.specs.MeetingLaws.{listing-at}
+use Rattle.placing.specs.PlanEndLaws.{plan-end-is}
+use Rattle.search.specs.Reply.{searched, outcomeTold, answerTold, startsOf}
+use Rattle.search.specs.Demand3.{OrderOf, endInOrder, PlanShown, NoneLower, Rank, BestThereIs, NoPlanExists, StepsUsedUp, BestSoFar, NoneSoFar, Promised}
+
+-- an order that comes before another is listed before it
+listed-before : (K : ℕ) (earlier later : List (List ℕ)) (order other : List ℕ) → orders (listing K) ≡ earlier ++ (order ∷ later) →
+    Arrange order (listing K) → Arrange other (listing K) → Lower other order → List·Memᴰ other earlier
+listed-before K earlier later order other split is-order is-other low =
+    earlier-listed-before (listing K) (listing-no-repeats K) earlier later order other split is-other
+    (lower-earlier (listing K) (listing-rising K) other order (arrange-mem other (listing K) is-other) (arrange-mem order (listing K) is-order) low)
+
+-- the starts of rows by listing position are the rows' starts
+pub start-listed : (K : ℕ) (rows : List Row) (i : ℕ) → i < K → startAt (startsOf K rows) i ≡ startIn rows i
+unfolding startAt startsOf
+start-listed K rows i h = listing-at (startIn rows) K i 0 h
+
+-- the starts and the order that an answer shows; without a plan none
+unfoldable pub startsShown : ℕ → Best → List ℕ
+startsShown K none-met = []
+startsShown K (met rows order) = startsOf K rows
+
+unfoldable pub orderShown : Best → List ℕ
+orderShown none-met = []
+orderShown (met rows order) = order
+
+-- what the promises rest on holds of every sound request
+pub grounds-of : (v : View) → SoundRequest v → length (v .demands) ≡ v .demandCount →
+    promises.Grounds (problemOf v) (v .band .slots) (boundOf v) [] (listing (v .demandCount))
+unfolding problemOf promises.NoneBelow
+grounds-of v sound counted =
+    record {
+      two-way = λ i j. share-swap (demandAt (v .demands) i .route) (demandAt (v .demands) j .route);
+      wide = λ i m. sound .demands-sound i (listing-below (v .demandCount) i m) .some-width;
+      once = listing-no-repeats (v .demandCount);
+      rows-within = omega (arith, top-nil (problemOf v));
+      bounded = λ plan allowed. bound-below v sound counted (v .band .slots) plan allowed;
+    }
+
+module _ (v : View) (sound : SoundRequest v) (counted : length (v .demands) ≡ v .demandCount)
+    (whole : (i : ℕ) → i < v .demandCount → length (demandAt (v .demands) i .route) ≡ demandAt (v .demands) i .hops)
+    (limit : ℕ) where
+  abbrev P : Problem
+  P = problemOf v
+
+  abbrev todo : List ℕ
+  todo = listing (v .demandCount)
+
+  -- the plan shown, as a list of starts
+  plan-shown : (a : theory.Answer) (order : List ℕ) (e : ℕ) → List·Memᴰ order (orders todo) →
+      promises.Shown P (v .band .slots) [] todo a order e → PlanShown v e (startsOf (v .demandCount) (fill P [] order)) order
+  unfolding OrderOf
+  plan-shown a order e listed shown =
+      record {
+        allowed = ends-to-slots v starts (allowed-alike P (startIn rows) (startAt starts) (v .band .slots) [] todo same (shown .allowed));
+        ends = plan-end-is v starts counted ∙ sym (planEnd-alike P (startIn rows) (startAt starts) [] todo same) ∙ shown .plan-ends;
+        in-band = shown .within;
+        an-order = orders-arrange todo order listed;
+        by-first-fit = refl;
+      }
+    where
+      rows : List Row
+      rows = fill P [] order
+
+      starts : List ℕ
+      starts = startsOf (v .demandCount) rows
+
+      same : (i : ℕ) → List·Memᴰ i todo → startIn rows i ≡ startAt starts i
+      same i m = sym (start-listed (v .demandCount) rows i (listing-below (v .demandCount) i m))
+
+  -- no allowed plan ends lower, as lists of starts
+  none-lower : (e : ℕ) → promises.NoneBelow P (v .band .slots) [] todo e → NoneLower v e
+  unfolding NoneLower promises.NoneBelow
+  none-lower e none other plan =
+      subst (λ (n : ℕ). e ≤ n) (sym (plan-end-is v other counted)) (none (startAt other) (slots-to-ends v other sound whole plan))
+
+  -- an order of the list of all orders stands in it
+  stands-listed : (earlier later : List (List ℕ)) (order : List ℕ) → orders todo ≡ earlier ++ (order ∷ later) → List·Memᴰ order (orders todo)
+  stands-listed earlier later order split =
+      subst (λ (l : List (List ℕ)). List·Memᴰ order l) (sym split) (Memᴰ·append-right earlier (List·Memᴰ·head refl))
+
+  -- finished: the best there is
+  finished-best : (a : theory.Answer) (e : ℕ) → promises.Finished P (v .band .slots) (boundOf v) [] todo a e →
+      (starts order : List ℕ) → starts ≡ startsShown (v .demandCount) (a .best) → order ≡ orderShown (a .best) →
+      BestThereIs v (answerTold a) e starts order
+  unfolding answerTold OrderOf endInOrder endsAt startsShown orderShown
+  finished-best a e f starts order es eo =
+      subst (λ (s : List ℕ). BestThereIs v (answerTold a) e s order) (sym (es ∙ ap (startsShown (v .demandCount)) (f .shown .best-is)))
+      (subst (λ (o : List ℕ). BestThereIs v (answerTold a) e (startsOf (v .demandCount) (fill P [] (f .order))) o) (sym (eo ∙ ap orderShown (f .shown .best-is)))
+      (record {
+        shown = plan-shown a (f .order) e listed (f .shown);
+        none-lower = none-lower e (f .none-lower);
+        first = λ other is-order low. f .first other
+            (listed-before (v .demandCount) (f .earlier) (f .later) (f .order) other (f .listed) (orders-arrange todo (f .order) listed) is-order low);
+        before = length (f .earlier);
+        rank = record { earlier = f .earlier; later = f .later; stands = f .listed; counted = refl };
+        sum-at-bound = f .sum-at-bound;
+        sum-above-bound = λ above. f .sum-above-bound above ∙ ap factorial (listing-length (v .demandCount));
+      }))
+    where
+      listed : List·Memᴰ (f .order) (orders todo)
+      listed = stands-listed (f .earlier) (f .later) (f .order) (f .listed)
+
+  -- nothing fits: there is no plan
+  nothing-none : (a : theory.Answer) → promises.NothingFits P (v .band .slots) [] todo a → NoPlanExists v (answerTold a)
+  unfolding answerTold
+  nothing-none a f =
+      record {
+        none = λ plan allowed. f .none-allowed (startAt plan) (slots-to-ends v plan sound whole allowed);
+        sum = f .sum ∙ ap factorial (listing-length (v .demandCount));
+      }
+
+  -- stopped: the steps are used up
+  stopped-used : (a : theory.Answer) (taken-in : List (List ℕ)) → promises.Stopped limit todo a taken-in →
+      StepsUsedUp v limit (answerTold a) taken-in
+  unfolding answerTold
+  stopped-used a taken-in f =
+      record {
+        steps-used = f .steps-are;
+        orders-left = f .remaining;
+        first-ones = f .split;
+        sum = f .sum;
+        not-all = subst (λ (n : ℕ). a .reached + a .ruled < factorial n) (listing-length (v .demandCount)) (f .sum-below);
+      }
+
+  -- unfinished with a plan: the best so far
+  unfinished-best : (a : theory.Answer) (e : ℕ) → promises.Unfinished P (v .band .slots) (boundOf v) limit [] todo a e →
+      (starts order : List ℕ) → starts ≡ startsShown (v .demandCount) (a .best) → order ≡ orderShown (a .best) →
+      BestSoFar v limit (answerTold a) e starts order
+  unfolding endInOrder endsAt startsShown orderShown
+  unfinished-best a e f starts order es eo =
+      subst (λ (s : List ℕ). BestSoFar v limit (answerTold a) e s order) (sym (es ∙ ap (startsShown (v .demandCount)) (f .shown .best-is)))
+      (subst (λ (o : List ℕ). BestSoFar v limit (answerTold a) e (startsOf (v .demandCount) (fill P [] (f .order))) o) (sym (eo ∙ ap orderShown (f .shown .best-is)))
+      (record {
+        orders-met = f .taken-in;
+        stopped = stopped-used a (f .taken-in) (f .stopped);
+        shown = plan-shown a (f .order) e listed (f .shown);
+        met-it = subst (λ (l : List (List ℕ)). List·Memᴰ (f .order) l) (sym (lead .stands)) (Memᴰ·append-right (lead .earlier) (List·Memᴰ·head refl));
+        best-met = λ other m. subst (λ (n : ℕ). n ≤ endsAt P [] other) (f .shown .order-ends) (no-lower other m);
+        first = λ other m low. subst (λ (n : ℕ). n < endsAt P [] other) (f .shown .order-ends)
+            (lead .earlier-higher other
+            (listed-before (v .demandCount) (lead .earlier) (lead .later ++ f .stopped .remaining) (f .order) other whole-split
+            (orders-arrange todo (f .order) listed)
+            (orders-arrange todo other (subst (λ (l : List (List ℕ)). List·Memᴰ other l) (sym (f .stopped .split)) (Memᴰ·append-left (f .stopped .remaining) m))) low));
+        above-bound = f .above-bound;
+      }))
+    where
+      lead : FirstLowest P [] (v .band .slots + 1) (f .taken-in) (f .order)
+      lead = f .lowest-first
+
+      whole-split : orders todo ≡ lead .earlier ++ (f .order ∷ (lead .later ++ f .stopped .remaining))
+      whole-split =
+          f .stopped .split
+          ∙ ap (λ (l : List (List ℕ)). l ++ f .stopped .remaining) (lead .stands)
+          ∙ append-assoc (lead .earlier) (f .order ∷ lead .later) (f .stopped .remaining)
+
+      listed : List·Memᴰ (f .order) (orders todo)
+      listed = stands-listed (lead .earlier) (lead .later ++ f .stopped .remaining) (f .order) whole-split
+
+      no-lower : (other : List ℕ) → List·Memᴰ other (f .taken-in) → endsAt P [] (f .order) ≤ endsAt P [] other
+      no-lower other m =
+          ⊎-elim
+          (λ here. let h = lead .earlier-higher other here in omega arith)
+          (λ there. ⊎-elim
+          (λ (same : other ≡ f .order). subst (λ (o : List ℕ). endsAt P [] (f .order) ≤ endsAt P [] o) (sym same) (omega arith))
+          (lead .later-no-lower other)
+          (List·Memᴰ·cases-cons there))
+          (List·Memᴰ·append-cases (lead .earlier) (subst (λ (l : List (List ℕ)). List·Memᴰ other l) (lead .stands) m))
+
+  -- unfinished without a plan: none so far
+  empty-none : (a : theory.Answer) → promises.UnfinishedEmpty P (v .band .slots) limit [] todo a → NoneSoFar v limit (answerTold a)
+  unfolding endInOrder endsAt
+  empty-none a f =
+      record { orders-met = f .taken-in; stopped = stopped-used a (f .taken-in) (f .stopped); none-met = f .none-within }
+
+  -- whatever the outcome, its promise is kept
+  kept : (a : theory.Answer) (o : theory.Outcome) → promises.Promise P (v .band .slots) (boundOf v) limit [] todo a o →
+      Promised v limit (answerTold a) (startsShown (v .demandCount) (a .best)) (orderShown (a .best)) (outcomeTold o)
+  unfolding promises.Promise Promised outcomeTold
+  kept a (theory.finished e) f = finished-best a e f (startsShown (v .demandCount) (a .best)) (orderShown (a .best)) refl refl
+  kept a theory.nothing-fits f = nothing-none a f
+  kept a (theory.unfinished e) f = unfinished-best a e f (startsShown (v .demandCount) (a .best)) (orderShown (a .best)) refl refl
+  kept a theory.unfinished-empty f = empty-none a f
+
+  -- demand 3: what the search answers about a sound request holds
+  pub demand3 :
+      Promised v limit (answerTold (searched v limit))
+      (startsShown (v .demandCount) (searched v limit .best)) (orderShown (searched v limit .best))
+      (answerTold (searched v limit) .outcome)
+  unfolding searched answerTold
+  demand3 =
+      kept (searched v limit) (searched v limit .outcome)
+      (search-promise P (v .band .slots) (boundOf v) limit [] todo (grounds-of v sound counted))
+
+-- demand 3 of a request in memory that passed its tests
+pub demand3-request : (q : Request) → Whole q → check (view q) ≡ Sound → (limit : ℕ) →
+    Promised (view q) limit (answerTold (searched (view q) limit))
+    (startsShown (view q .demandCount) (searched (view q) limit .best)) (orderShown (searched (view q) limit .best))
+    (answerTold (searched (view q) limit) .outcome)
+demand3-request q whole sound limit =
+    let limits = checked-limits q whole sound in
+    demand3 (view q) (check-sound (view q) (whole-counted q whole) sound) (limits .demands-there) (limits .routes-there) limit

@@ -1,0 +1,106 @@
+-- What the search of a request replies, and what the two lent buffers hold afterwards.
+use Prim.Native.Nat.{ℕ, _+_}
+use mathlib.Core.Bool.{Bool, true, false, cond}
+use mathlib.Core.List.{List, [], _∷_, _++_, map}
+use lib.ListN.{length, drop}
+use lib.Dec.{ltb}
+use Rattle.refusal.specs.declared.Refusal.{Refusal}
+use Rattle.refusal.specs.declared.Refusal.the-variants.{BufferShort, TooManyToSearch}
+use Rattle.theory.specs.Problem.{Row, startIn}
+use Rattle.theory.specs.Orders.{listing}
+use Rattle.theory.specs.Walk.{Best, none-met, met}
+use Rattle.theory.specs.Search as theory
+use Rattle.request.specs.declared.Checked.{Checked}
+use Rattle.request.specs.declared.Checked.the-variants.{Sound, Refused}
+use Rattle.request.specs.View.{View}
+use Rattle.request.specs.Check.{then, check}
+use Rattle.placing.specs.Placing.{problemOf, boundOf}
+use Rattle.search.specs.declared.Outcome.{Outcome}
+use Rattle.search.specs.declared.Outcome.the-variants.{Finished, NothingFits, Unfinished, UnfinishedEmpty}
+use Rattle.search.specs.declared.Answer.{Answer}
+use Rattle.search.specs.declared.SearchReply.{SearchReply}
+use Rattle.search.specs.declared.SearchReply.the-variants as reply
+
+-- the search of a request: all its demands in listing order, inside its band, with its bound
+unfoldable pub searched : View → ℕ → theory.Answer
+searched v limit = theory.search (problemOf v) (v .band .slots) (boundOf v) limit [] (listing (v .demandCount))
+
+-- the outcome in the call's words
+unfoldable pub outcomeTold : theory.Outcome → Outcome
+outcomeTold (theory.finished e) = Finished e
+outcomeTold theory.nothing-fits = NothingFits
+outcomeTold (theory.unfinished e) = Unfinished e
+outcomeTold theory.unfinished-empty = UnfinishedEmpty
+
+-- the outcome by whether the steps were spent, and whether a plan was met, which ends at the mark
+unfoldable pub outcomeBy : Bool → Bool → ℕ → Outcome
+outcomeBy false false mark = NothingFits
+outcomeBy false true mark = Finished mark
+outcomeBy true false mark = UnfinishedEmpty
+outcomeBy true true mark = Unfinished mark
+
+-- the answer in the call's words
+unfoldable pub answerTold : theory.Answer → Answer
+unfolding outcomeTold
+answerTold a =
+    record { outcome = outcomeTold (a .outcome); bound = a .bound; steps = a .steps; reached = a .reached; ruled = a .ruled }
+
+-- after the request: 11, then 10 for the starts, then 10 for the order
+unfoldable pub checkRoom : ℕ → ℕ → ℕ → Checked
+unfolding then
+checkRoom K startsRoom orderRoom =
+    then (cond (ltb 20 K) (Refused (TooManyToSearch K)) Sound)
+    (then (cond (ltb startsRoom K) (Refused (BufferShort K)) Sound)
+    (cond (ltb orderRoom K) (Refused (BufferShort K)) Sound))
+
+-- all that a search tests before its first step
+unfoldable pub checkSearch : View → ℕ → ℕ → Checked
+unfolding then check checkRoom
+checkSearch v startsRoom orderRoom = then (check v) (checkRoom (v .demandCount) startsRoom orderRoom)
+
+-- the reply: the refusal, or the answer
+unfoldable pub replyTo : Checked → theory.Answer → SearchReply
+unfolding answerTold
+replyTo (Refused why) a = reply.Refused why
+replyTo Sound a = reply.Answered (answerTold a)
+
+-- the starts by listing position that rows give K demands
+unfoldable pub startsOf : ℕ → List Row → List ℕ
+startsOf K rows = map (startIn rows) (listing K)
+
+-- a buffer whose first entries are these, the rest as it was
+unfoldable pub over : List ℕ → List ℕ → List ℕ
+over entries buffer = entries ++ drop (length entries) buffer
+
+-- the buffer of starts after a search: with a plan its K starts, else as it was
+unfoldable pub startsKept : ℕ → Best → List ℕ → List ℕ
+unfolding startsOf over
+startsKept K none-met buffer = buffer
+startsKept K (met rows order) buffer = over (startsOf K rows) buffer
+
+-- the buffer of the order after a search: with a plan the order that gave it, else as it was
+unfoldable pub orderKept : Best → List ℕ → List ℕ
+unfolding over
+orderKept none-met buffer = buffer
+orderKept (met rows order) buffer = over order buffer
+
+-- a refusal leaves a buffer as it was
+unfoldable pub unlessRefused : Checked → List ℕ → List ℕ → List ℕ
+unlessRefused (Refused why) before after = before
+unlessRefused Sound before after = after
+
+-- the reply to a request, a limit, and buffers of these lengths
+unfoldable pub searchReply : View → ℕ → ℕ → ℕ → SearchReply
+unfolding checkSearch replyTo searched
+searchReply v limit startsRoom orderRoom = replyTo (checkSearch v startsRoom orderRoom) (searched v limit)
+
+-- what the two buffers hold afterwards
+unfoldable pub startsAfter : View → ℕ → List ℕ → List ℕ → List ℕ
+unfolding checkSearch searched startsKept unlessRefused
+startsAfter v limit starts order =
+    unlessRefused (checkSearch v (length starts) (length order)) starts (startsKept (v .demandCount) (searched v limit .best) starts)
+
+unfoldable pub orderAfter : View → ℕ → List ℕ → List ℕ → List ℕ
+unfolding checkSearch searched orderKept unlessRefused
+orderAfter v limit starts order =
+    unlessRefused (checkSearch v (length starts) (length order)) order (orderKept (searched v limit .best) order)
