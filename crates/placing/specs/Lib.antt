@@ -13,3 +13,12 @@ pub mod ViewLaws
 pub mod MeetingLaws
 pub mod Need
 pub mod NeedLaws
+pub mod Near
+pub mod NearLaws
+pub mod FirstFit
+pub mod OrderLaws
+pub mod Placement
+pub mod BesideLaws
+pub mod PlacementLaws
+pub mod CopyLaws
+pub mod FirstFitLaws

@@ -33,9 +33,10 @@ someLink test (a ∷ route) = test a || someLink test route
 unfoldable pub markedIn : List Bool → ℕ → Bool
 markedIn marks a = getD marks a false
 
--- the marks are those of a route: of the first 256 numbers, all that stand in it
-pub record MarksOf (route : List ℕ) (marks : List Bool) : Type 0 where
-  pub marked : (link : ℕ) → link < 256 → markedIn marks link ≡ has link route
+-- the marks, n of them, are those of a list: of the first n numbers, all that stand in it
+pub record MarksOf (n : ℕ) (list : List ℕ) (marks : List Bool) : Type 0 where
+  pub full : length marks ≡ n
+  pub marked : (x : ℕ) → x < n → markedIn marks x ≡ has x list
 
 -- a row says of each demand whether it shares a link with demand i
 pub record MeetingRow (v : View) (i : ℕ) (row : List Bool) : Type 0 where

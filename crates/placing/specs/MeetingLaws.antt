@@ -73,7 +73,7 @@ has-some x [] = refl
 has-some x (y ∷ l) = rw (has-some x l)
 
 -- marks of a route are met by the routes that share a link with it
-share-marked : (route : List ℕ) (marks : List Bool) → MarksOf route marks →
+share-marked : (route : List ℕ) (marks : List Bool) → MarksOf 256 route marks →
     (l : List ℕ) → ((p : ℕ) → p < length l → getD l p 0 < 256) → someLink (markedIn marks) l ≡ shareLink l route
 unfolding shareLink someLink
 share-marked route marks known [] low = refl
@@ -81,14 +81,14 @@ share-marked route marks known (a ∷ l) low =
     rw (known .marked a (low 0 (omega arith)), share-marked route marks known l (λ p h. low (suc p) (omega arith)))
 
 -- so are those of a demand's array
-pub share-route : (route : List ℕ) (marks : List Bool) → MarksOf route marks → (links : List ℕ) (hops : ℕ) →
+pub share-route : (route : List ℕ) (marks : List Bool) → MarksOf 256 route marks → (links : List ℕ) (hops : ℕ) →
     ((p : ℕ) → getD links p 0 < 256) → someLink (markedIn marks) (take hops links) ≡ shareLink (take hops links) route
 share-route route marks known links hops low =
     share-marked route marks known (take hops links)
     (λ p h. rw (getD-take hops links p 0 (omega (arith, length-take hops links))) (low p))
 
 -- one more entry
-has-append : (x : ℕ) (l : List ℕ) (y : ℕ) → has x (l ++ (y ∷ [])) ≡ (has x l || eqb x y)
+pub has-append : (x : ℕ) (l : List ℕ) (y : ℕ) → has x (l ++ (y ∷ [])) ≡ (has x l || eqb x y)
 unfolding has
 has-append x [] y = or-false (eqb x y)
 has-append x (z ∷ l) y = rw (has-append x l y) (sym (or-assoc (eqb x z) (has x l) (eqb x y)))
@@ -97,29 +97,30 @@ has-append x (z ∷ l) y = rw (has-append x l y) (sym (or-assoc (eqb x z) (has x
 has-take : (x : ℕ) (l : List ℕ) (p : ℕ) → p < length l → has x (take (p + 1) l) ≡ (has x (take p l) || eqb x (getD l p 0))
 has-take x l p h = rw (add-one, take-suc l p 0) (has-append x (take p l) (getD l p 0))
 
--- nothing is marked for the empty route
-pub marks-none : (links : List ℕ) → MarksOf (take 0 links) (replicate 256 false)
+-- nothing is marked for no entries
+pub marks-none : (n : ℕ) (list : List ℕ) → MarksOf n (take 0 list) (replicate n false)
 unfolding markedIn has
-marks-none links = record { marked = λ link h. getD-replicate 256 link false false h }
+marks-none n list = record { full = length-replicate n false; marked = λ x h. getD-replicate n x false false h }
 
 -- one more mark
-pub marks-more : (marks : List Bool) (links : List ℕ) (p : ℕ) → length marks ≡ 256 → p < length links → getD links p 0 < 256 →
-    MarksOf (take p links) marks → MarksOf (take (p + 1) links) (set marks (getD links p 0) true)
+pub marks-more : (n : ℕ) (marks : List Bool) (list : List ℕ) (p : ℕ) → p < length list → getD list p 0 < n →
+    MarksOf n (take p list) marks → MarksOf n (take (p + 1) list) (set marks (getD list p 0) true)
 unfolding markedIn
-marks-more marks links p full h k known =
+marks-more n marks list p h k known =
     record {
+      full = length-set marks (getD list p 0) true ∙ known .full;
       marked =
           λ x b.
-          by-test (eqb x (getD links p 0))
+          by-test (eqb x (getD list p 0))
           (λ e.
-          rw (has-take x links p h, e, or-true (has x (take p links)), eqb-true x (getD links p 0) e)
-          (getD-set-same marks (getD links p 0) true false (omega arith)))
+          rw (has-take x list p h, e, or-true (has x (take p list)), eqb-true x (getD list p 0) e)
+          (getD-set-same marks (getD list p 0) true false (omega (arith, known .full))))
           (λ e.
           rw (
-            has-take x links p h,
+            has-take x list p h,
             e,
-            or-false (has x (take p links)),
-            getD-set-other marks (getD links p 0) x true false (eqb-false x (getD links p 0) e),
+            or-false (has x (take p list)),
+            getD-set-other marks (getD list p 0) x true false (eqb-false x (getD list p 0) e),
           )
           (known .marked x b));
     }

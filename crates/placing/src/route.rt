@@ -23,7 +23,7 @@ fn route_length(demand: Demand) -> usize
 
 // Which link numbers stand in a demand's route.
 pub fn route_marks(demand: Demand) -> [bool; 256]
-    ensures { λ r. ⌜ MarksOf (viewDemand demand .route) r ⌝ }
+    ensures { λ r. ⌜ MarksOf 256 (viewDemand demand .route) r ⌝ }
 {
     let mut marks = [false; 256];
     let hops = route_length(demand);
@@ -39,7 +39,7 @@ pub fn route_marks(demand: Demand) -> [bool; 256]
 
 // Whether a demand's route shares a link with the route that the marks are of.
 pub fn route_marked(marks: &[bool; 256], demand: Demand) -> bool
-    ensures { λ r. ⌜ ((route : List ℕ) → MarksOf route (now (marks .entry)) → r ≡ shareLink (viewDemand demand .route) route) ⌝ }
+    ensures { λ r. ⌜ ((route : List ℕ) → MarksOf 256 route (now (marks .entry)) → r ≡ shareLink (viewDemand demand .route) route) ⌝ }
 {
     let hops = route_length(demand);
     let links = demand.links;

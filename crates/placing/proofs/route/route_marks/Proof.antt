@@ -13,7 +13,7 @@ use Rattle.placing.proofs.route.route_marks.Statement.{statement}
 use Rattle.placing.proofs.route.route_marks.Tie as tie
 
 abbrev Inv-loop : tie.InvT-loop
-Inv-loop marks₀ hops links p₀ marks p = (p ≤ hops) × (length marks ≡ 256) × MarksOf (take p links) marks
+Inv-loop marks₀ hops links p₀ marks p = (p ≤ hops) × MarksOf 256 (take p links) marks
 
 abbrev μ-loop : tie.MeasureT-loop
 μ-loop marks₀ hops links p₀ marks p = hops - p
@@ -22,7 +22,7 @@ route-length-requires : tie.Need-route-length-requires Inv-loop μ-loop
 route-length-requires c κs = search needs
 
 loop-holds : tie.Need-loop-holds Inv-loop μ-loop
-loop-holds c = (omega arith, refl, marks-none (c .before .before .args .demand .links))
+loop-holds c = (omega arith, marks-none 256 (c .before .before .args .demand .links))
 
 array-read-link : tie.Need-array-read-link Inv-loop μ-loop
 array-read-link c = omega (arith, c .before .before .before .route-length .ensures .within)
@@ -49,20 +49,19 @@ loop-again c =
     let full : _≡_ {A = ℕ} (length (a .demand .links)) 32 = search needs in
     let byte : Fits w8 (getD (a .demand .links) p 0) = search needs in (
       omega arith,
-      simp length-set (c .before .loop .inv .1),
-      marks-more (c .before .loop .marks) (a .demand .links) p (c .before .loop .inv .1)
+      marks-more 256 (c .before .loop .marks) (a .demand .links) p
           (omega (arith, n .ensures .within))
           (omega (arith, byte))
-          (c .before .loop .inv .2),
+          (c .before .loop .inv .1),
     )
 
 returns : tie.Need-returns Inv-loop μ-loop
 returns c =
     let n = c .before .before .before .route-length in
     let done : c .before .loop .p ≡ n .result = omega arith in
-    subst (λ (route : List ℕ). MarksOf route (c .before .loop .marks))
+    subst (λ (route : List ℕ). MarksOf 256 route (c .before .loop .marks))
     (ap (λ (p : ℕ). take p (c .before .before .before .before .args .demand .links)) done ∙ n .ensures .is-route)
-    (c .before .loop .inv .2)
+    (c .before .loop .inv .1)
 
 pub route-marks-spec : {M : Type 1} → statement M
 route-marks-spec =
