@@ -1,17 +1,19 @@
 -- The check of starts in memory, in the order of its checks.
 use Prim.Native.Nat.{ℕ, _+_}
-use mathlib.Core.Bool.{Bool, true, false, cond, not, _&&_}
-use mathlib.Core.List.{List, [], _∷_, _++_}
+use mathlib.Core.Bool.{cond}
+use mathlib.Core.List.{List, [], _∷_}
 use lib.ListN.{length}
-use lib.Dec.{leb, ltb}
+use lib.Dec.{ltb}
 use Rattle.refusal.specs.declared.Refusal.the-variants.{NoRow, EndAbove, Clash}
-use Rattle.theory.specs.Problem.{Problem, Row, apart, fits}
+use Rattle.theory.specs.Problem.{Problem, Row, fits}
 use Rattle.request.specs.declared.Checked.{Checked}
 use Rattle.request.specs.declared.Checked.the-variants.{Sound, Refused}
 use Rattle.request.specs.View.{DemandView, View}
 use Rattle.request.specs.Check.{check, then}
 use Rattle.placing.specs.Placing.{problemOf}
-use Rattle.placing.specs.Plan.{startAt}
+use Rattle.placing.specs.Plan.{startAt, endOfPlan}
+use Rattle.plan.specs.declared.CheckReply.{CheckReply}
+use Rattle.plan.specs.declared.CheckReply.the-variants.{Accepted, Refused as Rejected}
 
 -- 16, at how many starts there are: fewer than K
 unfoldable pub checkCount : ℕ → List ℕ → Checked
@@ -51,3 +53,13 @@ checkPlaces v starts =
 unfoldable pub checkStarts : View → List ℕ → Checked
 unfolding then check checkCount checkPlaces
 checkStarts v starts = then (check v) (then (checkCount (v .demandCount) starts) (checkPlaces v starts))
+
+-- the answer of a check: accepted with this end, or refused
+unfoldable pub replyWith : Checked → ℕ → CheckReply
+replyWith Sound end = Accepted end
+replyWith (Refused why) end = Rejected why
+
+-- the answer for a request and its starts: the plan's end, or why it is refused
+unfoldable pub startsReply : View → List ℕ → CheckReply
+unfolding checkStarts endOfPlan replyWith
+startsReply v starts = replyWith (checkStarts v starts) (endOfPlan v starts)

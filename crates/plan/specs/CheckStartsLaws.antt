@@ -1,27 +1,27 @@
 -- The check of starts accepts exactly the allowed plans.
-use Prim.Native.Nat.{ℕ, zero, suc, _+_, _-_, _<_, _≤_, max}
+use Prim.Native.Nat.{ℕ, zero, suc, _+_, _-_, _<_, _≤_}
 use mathlib.Core.Bool.{Bool, true, false, cond}
-use mathlib.Core.List.{List, [], _∷_, List·Memᴰ, List·Memᴰ·head, List·Memᴰ·tail, List·Memᴰ·cases-cons, List·Memᴰ·not-nil}
-use mathlib.Core.Logic.{_⊎_, inl, inr, ⊎-elim, _≢_}
-use mathlib.Core.Path.{_≡_, refl, sym, subst, _∙_}
+use mathlib.Core.List.{List, [], _∷_}
+use mathlib.Core.Logic.{_≢_}
+use mathlib.Core.Path.{_≡_, refl, ap, subst, _∙_}
 use native.Mathlib.Omega.{arith}
-use native.Mathlib.Numerals.{add-one}
-use lib.ListN.{length, getD}
-use lib.Dec.{leb, ltb}
-use borrow.Author.Tests.{ltb-true, ltb-false, le-ltb}
+use lib.ListN.{length}
+use lib.Dec.{ltb}
+use borrow.Author.Tests.{ltb-true, ltb-false, lt-ltb, le-ltb}
 use Rattle.refusal.specs.declared.Refusal.{Refusal}
 use Rattle.refusal.specs.declared.Refusal.the-variants.{NoRow, EndAbove, Clash}
 use Rattle.theory.specs.Problem.{Problem, Row, endOf, apart, fits, Allowed}
-use Rattle.theory.specs.ProblemLaws.{fits-nil, fits-with, fits-first, fits-rest, fits-apart, apart-fits}
+use Rattle.theory.specs.ProblemLaws.{fits-nil, fits-with, fits-first, fits-rest}
 use Rattle.theory.specs.ApartLaws.{apart-swap}
-use Rattle.theory.specs.TestLaws.{by-test, not-both}
+use Rattle.theory.specs.TestLaws.{by-test}
 use Rattle.theory.specs.Orders.{listing}
 use Rattle.theory.specs.ListingLaws.{listing-below, listing-mem}
 use Rattle.request.specs.declared.Checked.{Checked}
 use Rattle.request.specs.declared.Checked.the-variants.{Sound, Refused}
-use Rattle.request.specs.View.{DemandView, View, demandAt, noDemand}
+use Rattle.request.specs.View.{DemandView, View, demandAt}
 use Rattle.request.specs.Check.{then, check}
-use Rattle.placing.specs.Placing.{shareLink, problemOf}
+use Rattle.request.specs.CheckLaws.{then-sound, then-refused, first-sound, next-sound}
+use Rattle.placing.specs.Placing.{problemOf}
 use Rattle.placing.specs.Plan.{startAt}
 use Rattle.placing.specs.PlanLaws.{share-swap}
 use Rattle.plan.specs.CheckStarts.{checkCount, checkEnd, checkEnds, checkClash, checkClashes, checkPlaces, checkStarts}
@@ -30,20 +30,9 @@ use Rattle.plan.specs.CheckStarts.{checkCount, checkEnd, checkEnds, chec
 refused-not-sound : {C : Type 0} (why : Refusal) → Refused why ≡ Sound → C
 refused-not-sound why e = absurd (let z : _≡_ {A = ℕ} 0 1 = cc in omega arith)
 
--- two checks pass one after the other exactly when each passes
-pub then-first : (a b : Checked) → then a b ≡ Sound → a ≡ Sound
-unfolding then
-then-first Sound b h = refl
-then-first (Refused why) b h = h
-
-pub then-second : (a b : Checked) → then a b ≡ Sound → b ≡ Sound
-unfolding then
-then-second Sound b h = h
-then-second (Refused why) b h = refused-not-sound why h
-
-pub then-both : (a b : Checked) → a ≡ Sound → b ≡ Sound → then a b ≡ Sound
-unfolding then
-then-both a b h k = rw (h, k)
+-- two checks that pass, pass one after the other
+pub both-sound : (a b : Checked) → a ≡ Sound → b ≡ Sound → then a b ≡ Sound
+both-sound a b h k = then-sound a b h ∙ k
 
 -- a check that refuses where a test is false passes exactly where it is true
 pub passes-if : (t : Bool) (why : Refusal) → t ≡ true → cond t Sound (Refused why) ≡ Sound
@@ -70,10 +59,16 @@ ends-within S starts k (d ∷ demands) h zero l =
     subst (λ (n : ℕ). startAt starts n + d .width ≤ S) (omega arith)
     (ltb-false S (startAt starts k + d .width)
     (unless-passes (ltb S (startAt starts k + d .width)) (EndAbove k)
-    (then-first (checkEnd S starts k d) (checkEnds S starts (k + 1) demands) h)))
+    (first-sound (checkEnd S starts k d) (checkEnds S starts (k + 1) demands) h)))
 ends-within S starts k (d ∷ demands) h (suc p) l =
     subst (λ (n : ℕ). startAt starts n + demandAt demands p .width ≤ S) (omega arith)
-    (ends-within S starts (k + 1) demands (then-second (checkEnd S starts k d) (checkEnds S starts (k + 1) demands) h) p (omega arith))
+    (ends-within S starts (k + 1) demands (next-sound (checkEnd S starts k d) (checkEnds S starts (k + 1) demands) h) p (omega arith))
+
+-- the same from the first position on
+pub each-within : (S : ℕ) (starts : List ℕ) (demands : List DemandView) → checkEnds S starts 0 demands ≡ Sound →
+    (p : ℕ) → p < length demands → startAt starts p + demandAt demands p .width ≤ S
+each-within S starts demands h p l =
+    subst (λ (n : ℕ). startAt starts n + demandAt demands p .width ≤ S) (omega arith) (ends-within S starts 0 demands h p l)
 
 -- each end is at most S: 17 passes
 pub within-ends : (S : ℕ) (starts : List ℕ) (k : ℕ) (demands : List DemandView) →
@@ -81,7 +76,7 @@ pub within-ends : (S : ℕ) (starts : List ℕ) (k : ℕ) (demands : List Demand
 unfolding checkEnds checkEnd demandAt
 within-ends S starts k [] h = refl
 within-ends S starts k (d ∷ demands) h =
-    then-both (checkEnd S starts k d) (checkEnds S starts (k + 1) demands)
+    both-sound (checkEnd S starts k d) (checkEnds S starts (k + 1) demands)
     (passes-unless (ltb S (startAt starts k + d .width)) (EndAbove k)
     (le-ltb S (startAt starts k + d .width) (subst (λ (n : ℕ). startAt starts n + d .width ≤ S) (omega arith) (h 0 (omega arith)))))
     (within-ends S starts (k + 1) demands
@@ -96,19 +91,19 @@ unfolding checkClashes checkClash
 clashes-none P starts rows k [] h p l = absurd (omega arith)
 clashes-none P starts rows k (d ∷ demands) h zero l = (
   subst (λ (n : ℕ). fits P rows n (startAt starts n) ≡ true) (omega arith)
-      (if-passes (fits P rows k (startAt starts k)) (Clash k) (then-first (checkClash P starts rows k) (checkClashes P starts (here ∷ rows) (k + 1) demands) h)),
+      (if-passes (fits P rows k (startAt starts k)) (Clash k) (first-sound (checkClash P starts rows k) (checkClashes P starts (here ∷ rows) (k + 1) demands) h)),
   λ q a b. subst (λ (n : ℕ). apart P n (startAt starts n) (k + q) (startAt starts (k + q)) ≡ true) (omega arith)
       (subst (λ (n : ℕ). apart P k (startAt starts k) n (startAt starts n) ≡ true) (omega arith)
       (fits-first P here rows (k + 1 + (q - 1)) (startAt starts (k + 1 + (q - 1)))
       (clashes-none P starts (here ∷ rows) (k + 1) demands
-      (then-second (checkClash P starts rows k) (checkClashes P starts (here ∷ rows) (k + 1) demands) h) (q - 1) (omega arith) .0))),
+      (next-sound (checkClash P starts rows k) (checkClashes P starts (here ∷ rows) (k + 1) demands) h) (q - 1) (omega arith) .0))),
 )
   where
     here : Row
     here = record { who = k; at = startAt starts k }
 clashes-none P starts rows k (d ∷ demands) h (suc p) l =
     let later = clashes-none P starts (record { who = k; at = startAt starts k } ∷ rows) (k + 1) demands
-    (then-second (checkClash P starts rows k) (checkClashes P starts (record { who = k; at = startAt starts k } ∷ rows) (k + 1) demands) h) p (omega arith) in (
+    (next-sound (checkClash P starts rows k) (checkClashes P starts (record { who = k; at = startAt starts k } ∷ rows) (k + 1) demands) h) p (omega arith) in (
       subst (λ (n : ℕ). fits P rows n (startAt starts n) ≡ true) (omega arith)
           (fits-rest P (record { who = k; at = startAt starts k }) rows (k + 1 + p) (startAt starts (k + 1 + p)) (later .0)),
       λ q a b. subst (λ (n : ℕ). apart P n (startAt starts n) (k + q) (startAt starts (k + q)) ≡ true) (omega arith)
@@ -124,7 +119,7 @@ pub none-clash : (P : Problem) (starts : List ℕ) (rows : List Row) (k : ℕ) (
 unfolding checkClashes checkClash
 none-clash P starts rows k [] clear apart-each = refl
 none-clash P starts rows k (d ∷ demands) clear apart-each =
-    then-both (checkClash P starts rows k) (checkClashes P starts (record { who = k; at = startAt starts k } ∷ rows) (k + 1) demands)
+    both-sound (checkClash P starts rows k) (checkClashes P starts (record { who = k; at = startAt starts k } ∷ rows) (k + 1) demands)
     (passes-if (fits P rows k (startAt starts k)) (Clash k)
     (subst (λ (n : ℕ). fits P rows n (startAt starts n) ≡ true) (omega arith) (clear 0 (omega arith))))
     (none-clash P starts (record { who = k; at = startAt starts k } ∷ rows) (k + 1) demands
@@ -144,10 +139,9 @@ module _ (v : View) (starts : List ℕ) (counted : length (v .demands) ≡ v .de
   unfolding checkPlaces problemOf endOf
   places-allowed h =
       record {
-        within = λ i m. subst (λ (n : ℕ). startAt starts n + demandAt (v .demands) i .width ≤ v .band .slots) (omega arith)
-            (ends-within (v .band .slots) starts 0 (v .demands)
-            (then-first (checkEnds (v .band .slots) starts 0 (v .demands)) (checkClashes (problemOf v) starts [] 0 (v .demands)) h)
-            i (omega (arith, listing-below (v .demandCount) i m)));
+        within = λ i m. each-within (v .band .slots) starts (v .demands)
+            (first-sound (checkEnds (v .band .slots) starts 0 (v .demands)) (checkClashes (problemOf v) starts [] 0 (v .demands)) h)
+            i (omega (arith, listing-below (v .demandCount) i m));
         clear-of-rows = λ i m. fits-nil (problemOf v) i (startAt starts i);
         clear-of-others = λ i j m n different.
             by-test (ltb i j)
@@ -164,7 +158,7 @@ module _ (v : View) (starts : List ℕ) (counted : length (v .demands) ≡ v .de
           subst (λ (n : ℕ). apart (problemOf v) n (startAt starts n) j (startAt starts j) ≡ true) (omega arith)
           (subst (λ (n : ℕ). apart (problemOf v) (0 + i) (startAt starts (0 + i)) n (startAt starts n) ≡ true) (omega arith)
           (clashes-none (problemOf v) starts [] 0 (v .demands)
-          (then-second (checkEnds (v .band .slots) starts 0 (v .demands)) (checkClashes (problemOf v) starts [] 0 (v .demands)) h)
+          (next-sound (checkEnds (v .band .slots) starts 0 (v .demands)) (checkClashes (problemOf v) starts [] 0 (v .demands)) h)
           i (omega arith) .1 j a (omega arith)))
 
   -- the plan is allowed by its ends and starts: 17 and 18 pass
@@ -172,7 +166,7 @@ module _ (v : View) (starts : List ℕ) (counted : length (v .demands) ≡ v .de
       checkPlaces v starts ≡ Sound
   unfolding checkPlaces problemOf endOf
   allowed-places plan =
-      then-both (checkEnds (v .band .slots) starts 0 (v .demands)) (checkClashes (problemOf v) starts [] 0 (v .demands))
+      both-sound (checkEnds (v .band .slots) starts 0 (v .demands)) (checkClashes (problemOf v) starts [] 0 (v .demands))
       (within-ends (v .band .slots) starts 0 (v .demands)
       (λ p l. subst (λ (n : ℕ). startAt starts n + demandAt (v .demands) p .width ≤ v .band .slots) (omega arith)
       (plan .within p (listing-mem (v .demandCount) p (omega arith)))))
@@ -181,3 +175,54 @@ module _ (v : View) (starts : List ℕ) (counted : length (v .demands) ≡ v .de
       (λ p q a b. subst (λ (n : ℕ). apart (problemOf v) n (startAt starts n) (0 + q) (startAt starts (0 + q)) ≡ true) (omega arith)
       (subst (λ (n : ℕ). apart (problemOf v) p (startAt starts p) n (startAt starts n) ≡ true) (omega arith)
       (plan .clear-of-others p q (listing-mem (v .demandCount) p (omega arith)) (listing-mem (v .demandCount) q (omega arith)) (omega arith)))))
+
+module _ (v : View) (starts : List ℕ) where
+  -- a refused request is refused for the same
+  pub request-refused : (why : Refusal) → check v ≡ Refused why → checkStarts v starts ≡ Refused why
+  unfolding checkStarts
+  request-refused why h = then-refused (check v) (then (checkCount (v .demandCount) starts) (checkPlaces v starts)) why h
+
+  -- fewer starts than demands are refused with 16
+  pub count-refused : check v ≡ Sound → length starts < v .demandCount → checkStarts v starts ≡ Refused (NoRow (length starts))
+  unfolding checkStarts checkCount
+  count-refused sound few =
+      then-sound (check v) (then (checkCount (v .demandCount) starts) (checkPlaces v starts)) sound ∙
+      then-refused (checkCount (v .demandCount) starts) (checkPlaces v starts) (NoRow (length starts))
+      (ap (λ (b : Bool). cond b (Refused (NoRow (length starts))) Sound) (lt-ltb (length starts) (v .demandCount) few))
+
+  -- then it is 17 and 18 that decide
+  pub places-decide : check v ≡ Sound → v .demandCount ≤ length starts → checkStarts v starts ≡ checkPlaces v starts
+  unfolding checkStarts checkCount
+  places-decide sound enough =
+      then-sound (check v) (then (checkCount (v .demandCount) starts) (checkPlaces v starts)) sound ∙
+      then-sound (checkCount (v .demandCount) starts) (checkPlaces v starts)
+      (passes-unless (ltb (length starts) (v .demandCount)) (NoRow (length starts)) (le-ltb (length starts) (v .demandCount) enough))
+
+  -- where 17 refuses, that is it
+  pub ends-refuse : (why : Refusal) → checkEnds (v .band .slots) starts 0 (v .demands) ≡ Refused why → checkPlaces v starts ≡ Refused why
+  unfolding checkPlaces
+  ends-refuse why h =
+      then-refused (checkEnds (v .band .slots) starts 0 (v .demands)) (checkClashes (problemOf v) starts [] 0 (v .demands)) why h
+
+  -- where 17 passes, 18 decides
+  pub clashes-decide : checkEnds (v .band .slots) starts 0 (v .demands) ≡ Sound →
+      checkPlaces v starts ≡ checkClashes (problemOf v) starts [] 0 (v .demands)
+  unfolding checkPlaces
+  clashes-decide h =
+      then-sound (checkEnds (v .band .slots) starts 0 (v .demands)) (checkClashes (problemOf v) starts [] 0 (v .demands)) h
+
+  -- where all pass, each has passed
+  pub each-passed : checkStarts v starts ≡ Sound →
+      (check v ≡ Sound) × (v .demandCount ≤ length starts) × (checkEnds (v .band .slots) starts 0 (v .demands) ≡ Sound) × (checkPlaces v starts ≡ Sound)
+  unfolding checkStarts checkCount checkPlaces
+  each-passed h =
+      let ends = checkEnds (v .band .slots) starts 0 (v .demands) in
+      let clashes = checkClashes (problemOf v) starts [] 0 (v .demands) in
+      let counted = next-sound (check v) (then (checkCount (v .demandCount) starts) (then ends clashes)) h in
+      let placed = next-sound (checkCount (v .demandCount) starts) (then ends clashes) counted in (
+        first-sound (check v) (then (checkCount (v .demandCount) starts) (then ends clashes)) h,
+        ltb-false (length starts) (v .demandCount)
+            (unless-passes (ltb (length starts) (v .demandCount)) (NoRow (length starts)) (first-sound (checkCount (v .demandCount) starts) (then ends clashes) counted)),
+        first-sound ends clashes placed,
+        placed,
+      )

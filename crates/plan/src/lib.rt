@@ -1,2 +1,14 @@
 // Plans: starts checked, plan files read and written.
-pub fn nothing() {}
+use refusal::Refusal;
+
+mod check;
+mod write;
+
+pub use check::check_starts;
+pub use write::write_plan;
+
+// Whether a plan is accepted, with its end, or why it is refused.
+pub enum CheckReply {
+    Accepted(u16),
+    Refused(Refusal),
+}

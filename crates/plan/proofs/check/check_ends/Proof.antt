@@ -1,0 +1,99 @@
+-- `plan::check::check_ends` meets its contract. Assumes nothing.
+use Prim.Native.Nat.{ℕ, _+_, _≤_, _<_, _-_, min}
+use mathlib.Core.Path.{_≡_, refl, sym, _∙_}
+use native.Mathlib.Omega.{arith}
+use lib.ListN.{length, drop}
+use borrow.Author.Needs.{needs}
+use borrow.Author.Tests.{ltb-true, ltb-false}
+use Rattle.request.specs.View.{view, viewDemand, demandAt}
+use Rattle.request.specs.ViewLaws.{demands-shown, demand-shown, mapped-length}
+use Rattle.placing.specs.Plan.{startAt}
+use Rattle.plan.specs.CheckStarts.{checkEnds}
+use Rattle.plan.specs.TurnLaws.{end-passes, end-refused, ends-done}
+use Rattle.plan.proofs.check.check_ends.Statement.{statement}
+use Rattle.plan.proofs.check.check_ends.Tie as tie
+
+abbrev Inv-loop : tie.InvT-loop
+Inv-loop starts request count slots k₀ k =
+    (k ≤ count) × (checkEnds slots starts 0 (view request .demands) ≡ checkEnds slots starts k (drop k (view request .demands)))
+
+abbrev μ-loop : tie.MeasureT-loop
+μ-loop starts request count slots k₀ k = count - k
+
+loop-holds : tie.Need-loop-holds Inv-loop μ-loop
+loop-holds c = (search needs, refl)
+
+mul-demand : tie.Need-mul-demand Inv-loop μ-loop
+mul-demand c = search needs
+
+element-copy-out-demand : tie.Need-element-copy-out-demand Inv-loop μ-loop
+element-copy-out-demand c = search needs
+
+mul-end-above : tie.Need-mul-end-above Inv-loop μ-loop
+mul-end-above c = search needs
+
+shared-slice-read-end-above : tie.Need-shared-slice-read-end-above Inv-loop μ-loop
+shared-slice-read-end-above c = search needs
+
+end-above-requires : tie.Need-end-above-requires Inv-loop μ-loop
+end-above-requires c κs = search needs
+
+returns : tie.Need-returns Inv-loop μ-loop
+unfolding startAt viewDemand
+returns c =
+    let request = c .before .before .before .before .before .before .before .args .t1 in
+    let starts = c .before .before .before .before .before .before .before .args .starts .now in
+    let v = view request in
+    let k = c .before .before .before .before .before .loop .k in
+    let all : _≡_ {A = ℕ} (length (request .demands)) 200 = search (mapped-length, needs) in
+    let shown : length (v .demands) ≡ min (request .«demand_count») (length (request .demands)) = demands-shown request in
+    let above : request .band .slots < startAt starts k + demandAt (v .demands) k .width =
+    rw (demand-shown request k (omega arith)) (ltb-true _ _ (sym (c .before .end-above .ensures) ∙ c .if1 .taken)) in
+    sym (c .before .before .before .before .before .loop .inv .1 ∙ end-refused (request .band .slots) starts (v .demands) k (omega arith) above)
+
+add-k : tie.Need-add-k Inv-loop μ-loop
+add-k c = search needs
+
+loop-less : tie.Need-loop-less Inv-loop μ-loop
+loop-less c = omega arith
+
+loop-again : tie.Need-loop-again Inv-loop μ-loop
+unfolding startAt viewDemand
+loop-again c =
+    let request = c .before .before .before .before .before .before .before .args .t1 in
+    let starts = c .before .before .before .before .before .before .before .args .starts .now in
+    let v = view request in
+    let k = c .before .before .before .before .before .loop .k in
+    let all : _≡_ {A = ℕ} (length (request .demands)) 200 = search (mapped-length, needs) in
+    let shown : length (v .demands) ≡ min (request .«demand_count») (length (request .demands)) = demands-shown request in
+    let within : startAt starts k + demandAt (v .demands) k .width ≤ request .band .slots =
+    rw (demand-shown request k (omega arith)) (ltb-false _ _ (sym (c .before .end-above .ensures) ∙ c .if1 .left)) in
+    (omega arith, c .before .before .before .before .before .loop .inv .1 ∙ end-passes (request .band .slots) starts (v .demands) k (omega arith) within)
+
+returns-2 : tie.Need-returns-2 Inv-loop μ-loop
+returns-2 c =
+    let request = c .before .before .before .args .t1 in
+    let starts = c .before .before .before .args .starts .now in
+    let v = view request in
+    let k = c .before .loop .k in
+    let all : _≡_ {A = ℕ} (length (request .demands)) 200 = search (mapped-length, needs) in
+    let shown : length (v .demands) ≡ min (request .«demand_count») (length (request .demands)) = demands-shown request in
+    sym (c .before .loop .inv .1 ∙ ends-done (request .band .slots) starts (v .demands) k (omega arith))
+
+pub check-ends-spec : {M : Type 1} → statement M
+check-ends-spec =
+    tie.close
+    (tie.spec
+    Inv-loop
+    μ-loop
+    loop-holds
+    mul-demand
+    element-copy-out-demand
+    mul-end-above
+    shared-slice-read-end-above
+    end-above-requires
+    returns
+    add-k
+    loop-less
+    loop-again
+    returns-2)

@@ -1,0 +1,88 @@
+-- A plan is accepted exactly when it is allowed; one that ends at the bound is then the best there is.
+use Prim.Native.Nat.{ℕ, _≤_}
+use mathlib.Core.List.{List, []}
+use mathlib.Core.Path.{_≡_, refl, sym, ap, subst, _∙_}
+use native.Mathlib.Omega.{arith}
+use lib.ListN.{length}
+use Rattle.theory.specs.Problem.{Allowed}
+use Rattle.theory.specs.Orders.{listing}
+use Rattle.request.specs.declared.Request.{Request}
+use Rattle.request.specs.declared.Checked.{Checked}
+use Rattle.request.specs.declared.Checked.the-variants.{Sound, Refused}
+use Rattle.request.specs.View.{View, view}
+use Rattle.request.specs.Check.{check}
+use Rattle.request.specs.Sound.{SoundRequest}
+use Rattle.request.specs.Whole.{Whole, Counted}
+use Rattle.request.specs.SoundLaws.{check-sound, sound-check, whole-counted}
+use Rattle.request.specs.LimitsLaws.{sound-limits}
+use Rattle.placing.specs.Placing.{problemOf, boundOf}
+use Rattle.placing.specs.Plan.{startAt, AllowedPlan, endOfPlan}
+use Rattle.placing.specs.PlanLaws.{slots-to-ends, ends-to-slots}
+use Rattle.placing.specs.BoundLaws.{plan-above-bound}
+use Rattle.plan.specs.declared.CheckReply.{CheckReply}
+use Rattle.plan.specs.declared.CheckReply.the-variants.{Accepted}
+use Rattle.plan.specs.CheckStarts.{checkStarts, replyWith, startsReply}
+use Rattle.plan.specs.CheckStartsLaws.{places-allowed, allowed-places, places-decide, each-passed}
+use Rattle.plan.specs.Acceptable.{Acceptable}
+
+-- an answer that accepts comes from a check that passes
+pub reply-passed : (x : Checked) (own end : ℕ) → replyWith x own ≡ Accepted end → (x ≡ Sound) × (own ≡ end)
+unfolding replyWith
+reply-passed Sound own end h = (refl, cc)
+reply-passed (Refused why) own end h = absurd (let z : _≡_ {A = ℕ} 0 1 = cc in omega arith)
+
+module _ (v : View) (counted : Counted v) (starts : List ℕ) where
+  -- an accepted plan is allowed, and the answer is its end
+  pub accepted-allowed : (end : ℕ) → startsReply v starts ≡ Accepted end → Acceptable v starts × (end ≡ endOfPlan v starts)
+  unfolding startsReply
+  accepted-allowed end h =
+      let passed = reply-passed (checkStarts v starts) (endOfPlan v starts) end h in
+      let each = each-passed v starts (passed .0) in
+      let sound = check-sound v counted (each .0) in (
+        record {
+          request-sound = sound;
+          enough-starts = each .1;
+          plan-allowed = ends-to-slots v starts (places-allowed v starts (sound-limits v counted sound .demands-there) (each .3));
+        },
+        sym (passed .1),
+      )
+
+  -- a plan allowed by its ends and starts is accepted with its end
+  pub allowed-ends-accepted : SoundRequest v → v .demandCount ≤ length starts →
+      Allowed (problemOf v) (v .band .slots) [] (listing (v .demandCount)) (startAt starts) →
+      startsReply v starts ≡ Accepted (endOfPlan v starts)
+  unfolding startsReply replyWith
+  allowed-ends-accepted sound enough allowed =
+      ap (λ (x : Checked). replyWith x (endOfPlan v starts))
+      (places-decide v starts (sound-check v counted sound) enough ∙ allowed-places v starts (sound-limits v counted sound .demands-there) allowed)
+
+  -- an allowed plan is accepted with its end
+  pub allowed-accepted : Acceptable v starts → startsReply v starts ≡ Accepted (endOfPlan v starts)
+  allowed-accepted good =
+      allowed-ends-accepted (good .request-sound) (good .enough-starts)
+      (slots-to-ends v starts (good .request-sound) (sound-limits v counted (good .request-sound) .routes-there) (good .plan-allowed))
+
+  -- the certificate: no allowed plan whatsoever ends below an accepted plan whose end is the bound
+  pub bound-certifies : startsReply v starts ≡ Accepted (boundOf v) →
+      (others : List ℕ) → AllowedPlan v others → endOfPlan v starts ≤ endOfPlan v others
+  bound-certifies h others allowed =
+      let good = accepted-allowed (boundOf v) h in
+      let sound = good .0 .request-sound in
+      subst (λ (e : ℕ). e ≤ endOfPlan v others) (good .1)
+      (plan-above-bound v sound (sound-limits v counted sound .demands-there) (sound-limits v counted sound .routes-there) others allowed)
+
+module _ (r : Request) (whole : Whole r) (starts : List ℕ) where
+  -- for every request and every list of starts: accepted exactly when allowed, with the plan's end
+  pub accepted-exactly :
+      ((end : ℕ) → startsReply (view r) starts ≡ Accepted end → Acceptable (view r) starts × (end ≡ endOfPlan (view r) starts))
+      × (Acceptable (view r) starts → startsReply (view r) starts ≡ Accepted (endOfPlan (view r) starts))
+  accepted-exactly = (accepted-allowed (view r) (whole-counted r whole) starts, allowed-accepted (view r) (whole-counted r whole) starts)
+
+  -- for every request: an accepted plan whose end is the bound is the best there is
+  pub best-at-the-bound : startsReply (view r) starts ≡ Accepted (boundOf (view r)) →
+      (others : List ℕ) → AllowedPlan (view r) others → endOfPlan (view r) starts ≤ endOfPlan (view r) others
+  best-at-the-bound = bound-certifies (view r) (whole-counted r whole) starts
+
+-- two results that meet the contract of `check_starts` are equal
+pub same-check : (v : View) (starts : List ℕ) (a a′ : CheckReply) → a ≡ startsReply v starts → a′ ≡ startsReply v starts → a ≡ a′
+same-check v starts a a′ h k = h ∙ sym k

@@ -1,0 +1,115 @@
+-- A plan's file, row by row, as it is written.
+use Prim.Native.Nat.{ℕ, suc, _+_, _*_, _/_, _%_, _≤_, _<_}
+use mathlib.Core.List.{List, [], _∷_, _++_}
+use mathlib.Core.Path.{_≡_, refl, sym, ap, _∙_}
+use native.Mathlib.Omega.{arith}
+use native.Mathlib.Numerals.{add-one}
+use lib.ListN.{length, drop, set, length-append, drop-of-length-le}
+use lib.Seq.{sets, sets-eq, drop-cons}
+use borrow.Author.Tests.{le-leb, lt-leb}
+use Rattle.refusal.specs.declared.Refusal.{Refusal}
+use Rattle.refusal.specs.declared.Refusal.the-variants.{BufferShort}
+use Rattle.request.specs.declared.Checked.{Checked}
+use Rattle.request.specs.declared.Checked.the-variants.{Sound, Refused}
+use Rattle.request.specs.declared.Written.{Written}
+use Rattle.request.specs.declared.Written.the-variants.{Wrote, Refused as Unwritten}
+use Rattle.request.specs.View.{DemandView, View, demandAt, noDemand}
+use Rattle.request.specs.Encoding.{twoBytes, field}
+use Rattle.request.specs.Writing.{writeReply, filled}
+use Rattle.placing.specs.Plan.{startAt}
+use Rattle.plan.specs.CheckStarts.{checkStarts}
+use Rattle.plan.specs.PlanFile.{rowField, rowFields, encodePlan, planWritten, planOut}
+
+-- a row has 7 bytes
+pub row-length : (ident start : ℕ) → length (rowField ident start) ≡ 7
+unfolding rowField field twoBytes
+row-length ident start = refl
+
+-- the rows have 7 bytes for each demand
+pub rows-length : (starts : List ℕ) (k : ℕ) (demands : List DemandView) → length (rowFields starts k demands) ≡ 7 * length demands
+unfolding rowFields
+rows-length starts k [] = refl
+rows-length starts k (d ∷ demands) =
+    length-append (rowField (d .ident) (startAt starts k)) (rowFields starts (k + 1) demands)
+    ∙ omega (arith, row-length (d .ident) (startAt starts k), rows-length starts (k + 1) demands)
+
+-- the rows from a position on: the one there, then those behind it
+pub rows-turn : (starts : List ℕ) (demands : List DemandView) (k : ℕ) → k < length demands →
+    rowFields starts k (drop k demands) ≡ rowField (demandAt demands k .ident) (startAt starts k) ++ rowFields starts (k + 1) (drop (k + 1) demands)
+unfolding rowFields demandAt
+rows-turn starts demands k h = rw (drop-cons demands k noDemand h, add-one k)
+
+-- behind the last demand there is no row
+pub rows-done : (starts : List ℕ) (demands : List DemandView) (k : ℕ) → length demands ≤ k → rowFields starts k (drop k demands) ≡ []
+unfolding rowFields
+rows-done starts demands k h = rw (drop-of-length-le demands h)
+
+-- a list stored in two parts
+pub sets-append : (l xs ys : List ℕ) (i : ℕ) → sets l i (xs ++ ys) ≡ sets (sets l i xs) (i + length xs) ys
+sets-append l [] ys i = let e : i ≡ i + 0 = omega arith in ap (λ (n : ℕ). sets l n ys) e
+sets-append l (a ∷ xs) ys i =
+    let e : suc i + length xs ≡ i + suc (length xs) = omega arith in
+    sets-append (set l i a) xs ys (suc i) ∙ ap (λ (n : ℕ). sets (sets (set l i a) (suc i) xs) n ys) e
+
+-- the rows stored from a position on: the one there, then those behind it
+pub store-turn : (out starts : List ℕ) (demands : List DemandView) (k : ℕ) → k < length demands →
+    sets out (7 * k) (rowFields starts k (drop k demands)) ≡
+    sets (sets out (7 * k) (rowField (demandAt demands k .ident) (startAt starts k))) (7 * (k + 1)) (rowFields starts (k + 1) (drop (k + 1) demands))
+store-turn out starts demands k h =
+    let row = rowField (demandAt demands k .ident) (startAt starts k) in
+    let rest = rowFields starts (k + 1) (drop (k + 1) demands) in
+    let e : 7 * k + length row ≡ 7 * (k + 1) = omega (arith, row-length (demandAt demands k .ident) (startAt starts k)) in
+    ap (λ (file : List ℕ). sets out (7 * k) file) (rows-turn starts demands k h)
+    ∙ (sets-append out row rest (7 * k) ∙ ap (λ (n : ℕ). sets (sets out (7 * k) row) n rest) e)
+
+-- seven bytes stored one by one are a row
+pub row-stored : (out : List ℕ) (at ident start a b c d : ℕ) → a ≡ ident / 256 → b ≡ ident % 256 → c ≡ start / 256 → d ≡ start % 256 →
+    set (set (set (set (set (set (set out at 4) (at + 1) 0) (at + 2) 4) (at + 3) a) (at + 4) b) (at + 5) c) (at + 6) d ≡ sets out at (rowField ident start)
+unfolding rowField field twoBytes
+row-stored out at ident start a b c d ha hb hc hd =
+    let two : at + 2 ≡ suc (suc at) = omega arith in
+    let three : at + 3 ≡ suc (suc (suc at)) = omega arith in
+    let four : at + 4 ≡ suc (suc (suc (suc at))) = omega arith in
+    let five : at + 5 ≡ suc (suc (suc (suc (suc at)))) = omega arith in
+    let six : at + 6 ≡ suc (suc (suc (suc (suc (suc at))))) = omega arith in
+    rw (add-one at, two, three, four, five, six, ha, hb, hc, hd)
+
+-- a list stored at the front of a buffer stands before the rest of it
+pub stored-front : (out file : List ℕ) → length file ≤ length out → sets out 0 file ≡ file ++ drop (length file) out
+stored-front out file h =
+    let e : 0 + length file ≡ length file = omega arith in
+    sets-eq file out 0 (omega arith) ∙ ap (λ (n : ℕ). file ++ drop n out) e
+
+module _ (v : View) (starts out : List ℕ) where
+  -- a plan that the check refuses is refused for the same
+  pub plan-unwritten : (why : Refusal) → checkStarts v starts ≡ Refused why → planWritten v starts out ≡ Unwritten why
+  unfolding planWritten writeReply
+  plan-unwritten why h = ap (λ (x : Checked). writeReply x (length (encodePlan v starts)) (length out)) h
+
+  -- a buffer too short for the file is refused with 10
+  pub plan-short : checkStarts v starts ≡ Sound → length out < length (encodePlan v starts) →
+      planWritten v starts out ≡ Unwritten (BufferShort (length (encodePlan v starts)))
+  unfolding planWritten writeReply
+  plan-short h short = rw (h, lt-leb (length (encodePlan v starts)) (length out) short)
+
+  -- else the file is written
+  pub plan-wrote : checkStarts v starts ≡ Sound → length (encodePlan v starts) ≤ length out →
+      planWritten v starts out ≡ Wrote (length (encodePlan v starts))
+  unfolding planWritten writeReply
+  plan-wrote h room = rw (h, le-leb (length (encodePlan v starts)) (length out) room)
+
+  -- a refusal leaves the buffer as it was
+  pub out-unwritten : (why : Refusal) → planWritten v starts out ≡ Unwritten why → planOut v starts out ≡ out
+  unfolding planOut filled
+  out-unwritten why h = ap (λ (x : Written). filled x (encodePlan v starts) out) h
+
+  -- a written file stands at the front of the buffer, and the rest is as it was
+  pub out-wrote : (bytes : ℕ) → planWritten v starts out ≡ Wrote bytes → planOut v starts out ≡ encodePlan v starts ++ drop bytes out
+  unfolding planOut filled
+  out-wrote bytes h = ap (λ (x : Written). filled x (encodePlan v starts) out) h
+
+-- two results that meet the contract of `write_plan` are equal, and leave the same in the buffer
+pub same-write : (v : View) (starts out : List ℕ) (a a′ : Written) (b b′ : List ℕ) →
+    a ≡ planWritten v starts out → b ≡ planOut v starts out → a′ ≡ planWritten v starts out → b′ ≡ planOut v starts out →
+    (a ≡ a′) × (b ≡ b′)
+same-write v starts out a a′ b b′ h k h′ k′ = (h ∙ sym h′, k ∙ sym k′)
