@@ -1,0 +1,6 @@
+-- The worked set: the requests, the calls, the table of their answers, and the theorem that they are the answers.
+pub mod Requests
+pub mod Calls
+pub mod Table
+pub mod Worked
+pub mod ByContract

@@ -1,0 +1,70 @@
+-- The requests of the worked set.
+use Prim.Native.Nat.{ℕ}
+use mathlib.Core.List.{List, [], _∷_}
+use lib.IntN.{ℤ, pos, negsuc}
+use Rattle.grid.specs.declared.Band.{Band}
+use Rattle.request.specs.declared.Link.{Link}
+use Rattle.request.specs.View.{DemandView, View}
+
+-- a band with the lower edge -284
+abbrev pub bandOf : ℕ → ℕ → Band
+bandOf S G = record { n0 = negsuc 283; slots = S; guard = G }
+
+-- a link from one node to another
+abbrev pub link : ℕ → ℕ → Link
+link a b = record { from = a; to = b }
+
+-- R: two links in a row, a demand on each and one on both, in a band of S slots with guard G
+abbrev pub R : ℕ → ℕ → View
+R S G =
+    record {
+      band = bandOf S G;
+      linkCount = 2;
+      links = link 0 1 ∷ link 1 2 ∷ [];
+      demandCount = 3;
+      demands =
+          record { ident = 10; width = 2; hops = 1; route = 0 ∷ [] }
+          ∷ record { ident = 20; width = 1; hops = 2; route = 0 ∷ 1 ∷ [] }
+          ∷ record { ident = 30; width = 3; hops = 1; route = 1 ∷ [] }
+          ∷ [];
+    }
+
+-- T: three links round a triangle, and three demands of width 1, each on two of them
+abbrev pub T : ℕ → View
+T S =
+    record {
+      band = bandOf S 0;
+      linkCount = 3;
+      links = link 0 1 ∷ link 1 2 ∷ link 2 0 ∷ [];
+      demandCount = 3;
+      demands =
+          record { ident = 1; width = 1; hops = 2; route = 0 ∷ 1 ∷ [] }
+          ∷ record { ident = 2; width = 1; hops = 2; route = 1 ∷ 2 ∷ [] }
+          ∷ record { ident = 3; width = 1; hops = 2; route = 2 ∷ 0 ∷ [] }
+          ∷ [];
+    }
+
+-- two demands with different routes that share link 0, the first of width 2, and guard 1
+abbrev pub twoOnOneLink : View
+twoOnOneLink =
+    record {
+      band = bandOf 384 1;
+      linkCount = 2;
+      links = link 0 1 ∷ link 1 2 ∷ [];
+      demandCount = 2;
+      demands =
+          record { ident = 1; width = 2; hops = 1; route = 0 ∷ [] }
+          ∷ record { ident = 2; width = 4; hops = 2; route = 0 ∷ 1 ∷ [] }
+          ∷ [];
+    }
+
+-- R as a file: 43 bytes
+abbrev pub fileR : List ℕ
+fileR =
+    1 ∷ 0 ∷ 5 ∷ 0xFE ∷ 0xE4 ∷ 1 ∷ 0x80 ∷ 0
+    ∷ 2 ∷ 0 ∷ 2 ∷ 0 ∷ 1
+    ∷ 2 ∷ 0 ∷ 2 ∷ 1 ∷ 2
+    ∷ 3 ∷ 0 ∷ 5 ∷ 0 ∷ 10 ∷ 0 ∷ 2 ∷ 0
+    ∷ 3 ∷ 0 ∷ 6 ∷ 0 ∷ 20 ∷ 0 ∷ 1 ∷ 0 ∷ 1
+    ∷ 3 ∷ 0 ∷ 5 ∷ 0 ∷ 30 ∷ 0 ∷ 3 ∷ 1
+    ∷ []
