@@ -10,6 +10,7 @@ mod write;
 pub use check::check_request;
 pub use read::empty_request;
 pub use read::read_request;
+pub use write::write_request;
 
 // A directed link from one node to another.
 pub struct Link {
