@@ -1,28 +1,16 @@
 // Bodies from standard input.
+use crate::buffers::held_bytes;
 use libc::STDIN_FILENO;
 ghost use Prim.Native.Nat.{_≤_};
-ghost use Rattle.io.specs.Counts.{Counts};
 
 // Reads a body of this length. The room keeps the front of it; what it does not hold is read and forgotten. False where the input
 // ends before the body does.
 pub fn read_body(length: usize, room: &mut [u8]) -> bool {
-    let kept = kept(length, room);
+    let kept = held_bytes(length, room);
     if io::read_full(STDIN_FILENO, &mut room[..kept]) < kept {
         return false;
     }
     skip(length - kept)
-}
-
-// How many bytes of a body of this length a room keeps.
-pub fn kept(length: usize, room: &[u8]) -> usize
-    ensures { λ r. ⌜ r ≤ length ⌝ }
-    ensures { λ r. ⌜ Counts r (now (room .entry)) ⌝ }
-{
-    if length < room.len() {
-        length
-    } else {
-        room.len()
-    }
 }
 
 // Reads that many bytes and forgets them. False where the input ends before them.
@@ -43,6 +31,6 @@ fn skip_some(count: usize) -> usize
     ensures { λ r. ⌜ r ≤ count ⌝ }
 {
     let mut space = io::buffer();
-    let most = kept(count, &space);
+    let most = held_bytes(count, &space);
     io::read_full(STDIN_FILENO, &mut space[..most])
 }

@@ -1,28 +1,30 @@
 // Makes any call of the library from bytes on standard input and prints one line for each, so that a program in any language can
 // test every call, lent buffers included. A frame is the call's number (1 byte), the length of its body (4 bytes) and the body. All
 // numbers stand with their high byte first.
+use buffers::held_bytes;
 use libc::STDIN_FILENO;
 use numbers::byte_at;
 use numbers::four_at;
+ghost use mathlib.Core.Path.{_≡_};
+ghost use lib.ListN.{length};
 
-mod block;
-mod check_request;
-mod frequency;
+mod buffers;
+mod calls;
 mod input;
 mod numbers;
 mod raw;
 mod say;
 
-// The numbers of the calls.
-const CHECK_REQUEST: u8 = 0x02;
-
-const TO_FREQUENCY: u8 = 0x0A;
-
-const FROM_FREQUENCY: u8 = 0x0B;
+// Room for the longest body that the calls' own formats allow, 138,611 bytes, and then some.
+fn body_room() -> [u8; 139264]
+    ensures { λ r. ⌜ 139264 ≡ length r ⌝ }
+{
+    [0; 139264]
+}
 
 // A proved loop has to end, and nothing says that the input does. So the frames are counted down from a number that no run uses up.
 fn main() {
-    let mut room = [0u8; 138_624];
+    let mut room = body_room();
     answer_all(&mut room);
 }
 
@@ -57,16 +59,6 @@ fn answer_frame(head: &[u8], room: &mut [u8]) -> bool {
     if !input::read_body(length, room) {
         return false;
     }
-    let kept = input::kept(length, room);
-    make_call(byte_at(head, 0), &room[..kept])
-}
-
-// Makes one call and prints its line. False, and nothing printed, where the body is not one of this call or there is no such call.
-fn make_call(op: u8, body: &[u8]) -> bool {
-    match op {
-        CHECK_REQUEST => check_request::answer(body),
-        TO_FREQUENCY => frequency::answer(body),
-        FROM_FREQUENCY => block::answer(body),
-        _ => false,
-    }
+    let kept = held_bytes(length, room);
+    calls::make_call(byte_at(head, 0), &room[..kept])
 }

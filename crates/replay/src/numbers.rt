@@ -5,7 +5,9 @@ ghost use Prim.Native.Nat.{_+_, _*_, min};
 ghost use lib.ListN.{getD};
 
 // The position `count` bytes on.
-pub fn next(at: usize, count: usize) -> usize {
+pub fn next(at: usize, count: usize) -> usize
+    ensures { λ r. ⌜ r ≡ min (at + count) 18446744073709551615 ⌝ }
+{
     if count <= usize::MAX - at {
         at + count
     } else {

@@ -1,6 +1,8 @@
 // What is printed, piece by piece.
 use libc::STDOUT_FILENO;
 use refusal::Refusal;
+use request::Written;
+ghost use Prim.Native.Nat.{_<_};
 ghost use mathlib.Core.Path.{_≡_};
 ghost use mathlib.Core.Bool.{true};
 ghost use lib.IntN.{pos, natAbs};
@@ -38,6 +40,60 @@ pub fn refusal(why: Refusal) {
     words(b"refused");
     number(why.number() as u64);
     number(why.place() as u64);
+}
+
+// How many bytes were written, or why none.
+pub fn written(written: Written) {
+    match written {
+        Written::Wrote(count) => {
+            words(b"wrote");
+            number(count as u64);
+        }
+        Written::Refused(why) => refusal(why),
+    }
+}
+
+// A space and a buffer of bytes in hexadecimal, `-` for an empty one.
+pub fn bytes(buffer: &[u8]) {
+    words(b" ");
+    if buffer.len() == 0 {
+        words(b"-");
+    }
+    let mut i = 0;
+    while i < buffer.len() {
+        byte(buffer[i]);
+        i += 1;
+    }
+}
+
+fn byte(b: u8) {
+    words(&[digit(b / 16), digit(b % 16)]);
+}
+
+fn digit(n: u8) -> u8
+    requires { ⌜ n < 16 ⌝ }
+{
+    if n < 10 { b'0' + n } else { b'A' - 10 + n }
+}
+
+// A space and a buffer of entries, joined by commas, `-` for an empty one.
+pub fn entries(buffer: &[u16]) {
+    words(b" ");
+    if buffer.len() == 0 {
+        words(b"-");
+    }
+    let mut i = 0;
+    while i < buffer.len() {
+        entry(buffer[i], i);
+        i += 1;
+    }
+}
+
+fn entry(n: u16, i: usize) {
+    if i > 0 {
+        words(b",");
+    }
+    io::print_decimal(STDOUT_FILENO, n as u64);
 }
 
 // The end of a line.

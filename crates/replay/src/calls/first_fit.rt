@@ -1,0 +1,44 @@
+// 05: room, n (2), n entries (2 each), raw. Places the demands in an order.
+use crate::buffers::MOST_ROOM;
+use crate::buffers::held_entries;
+use crate::buffers::lent_entries;
+use crate::buffers::listed_entries;
+use crate::numbers::next;
+use crate::numbers::read_entries;
+use crate::numbers::two_at;
+use crate::raw::raw_at;
+use crate::say;
+use placing::PlacedReply;
+use request::Request;
+
+pub fn answer(body: &[u8]) -> bool {
+    let room = two_at(body, 0) as usize;
+    let count = two_at(body, 2) as usize;
+    let raw = raw_at(body, next(next(4, count), count));
+    if raw.end != body.len() {
+        return false;
+    }
+    if room > MOST_ROOM {
+        return false;
+    }
+    let mut order = listed_entries();
+    let mut starts = lent_entries();
+    let count = held_entries(count, &order);
+    let room = held_entries(room, &starts);
+    place(body, raw.request, &mut order[..count], &mut starts[..room]);
+    true
+}
+
+fn place(body: &[u8], request: Request, order: &mut [u16], starts: &mut [u16]) {
+    read_entries(body, 4, order);
+    let reply = placing::first_fit(request, order, starts);
+    match reply {
+        PlacedReply::Placed(end) => {
+            say::words(b"placed");
+            say::number(end as u64);
+        }
+        PlacedReply::Refused(why) => say::refusal(why),
+    }
+    say::entries(starts);
+    say::end();
+}
