@@ -19,8 +19,10 @@ use Rattle.request.specs.Check.{then, has, allowedWidth, soundRoute}
 use Rattle.request.specs.Reading.{must, number16, bodyLength, fieldEnd, checkField, demandIn, checkNewDemand, checkDemandField, idents, demandsRefused, demandsRead, nextDemands, readDemands}
 use Rattle.request.specs.Packing.{padded, emptyDemand, packDemand, packDemands}
 use Rattle.request.specs.CheckLaws.{first-sound, next-sound}
-use Rattle.request.specs.ReadingLaws.{test-held, FieldHolds, field-holds, field-within}
+use Rattle.request.specs.ReadingLaws.{test-held, field-holds, field-within}
 use Rattle.request.specs.PackingLaws.{length-padded, take-padded, set-padded, view-packed}
+use Rattle.request.specs.Fields.{FieldHolds, NewDemandHolds}
+use Rattle.request.specs.SoFar.{DemandsSoFar}
 
 module _ (S : ℕ) (links : List Link) (earlier : List ℕ) (at : ℕ) (d : DemandView) where
   -- 6: the 201st demand
@@ -49,13 +51,12 @@ module _ (S : ℕ) (links : List Link) (earlier : List ℕ) (at : ℕ) (d : Dema
     unfolding checkNewDemand then must
     demand-sound new width route = rw (lt-ltb (length earlier) 200 few, new, width, route)
 
--- what a sound new demand says
-pub record NewDemandHolds (S : ℕ) (links : List Link) (earlier : List ℕ) (d : DemandView) : Type 0 where
-  pub room : length earlier < 200
-  pub ident-new : has (d .ident) earlier ≡ false
-  pub width-allowed : allowedWidth S (d .width) ≡ true
-  pub route-sound : soundRoute links (d .route) ≡ true
+-- there are as many idents as demands
+pub idents-length : (demands : List DemandView) → length (idents demands) ≡ length demands
+unfolding idents
+idents-length demands = length-map demands (λ (d : DemandView). d .ident)
 
+-- a new demand that is sound says so
 pub demand-holds : (S : ℕ) (links : List Link) (earlier : List ℕ) (at : ℕ) (d : DemandView) → checkNewDemand S links earlier at d ≡ Sound → NewDemandHolds S links earlier d
 unfolding checkNewDemand
 demand-holds S links earlier at d sound =
@@ -107,16 +108,6 @@ pub demand-then : {answer : Checked} (S : ℕ) (links : List Link) (s : List ℕ
 unfolding checkDemandField then
 demand-then S links s at earlier sound e = rw (← sound) e
 
--- the reading of the demands after `count` of them: the arrays hold them and their idents, and what follows decides the rest
-pub record DemandsSoFar (S : ℕ) (links : List Link) (s : List ℕ) (start at count : ℕ) (array : List Demand) (used : List ℕ) : Type 0 where
-  pub demands : List DemandView
-  pub counted : length demands ≡ count
-  pub few : count ≤ 200
-  pub within : at ≤ length s
-  pub stored : array ≡ padded 200 emptyDemand (map packDemand demands)
-  pub named : used ≡ padded 200 0 (idents demands)
-  pub goes-on : readDemands (201 - count) S links s at demands ≡ readDemands 201 S links s start []
-
 -- before the first
 pub demands-begin : (S : ℕ) (links : List Link) (s : List ℕ) (start : ℕ) → start ≤ length s → DemandsSoFar S links s start start 0 (replicate 200 emptyDemand) (replicate 200 0)
 unfolding padded idents
@@ -135,7 +126,7 @@ module _ (S : ℕ) (links : List Link) (s : List ℕ) (start at count : ℕ) (ar
   pub used-front : take count used ≡ idents (so-far .demands)
   unfolding idents
   used-front =
-      let named : length (idents (so-far .demands)) ≡ count = length-map (so-far .demands) (λ (d : DemandView). d .ident) ∙ so-far .counted in
+      let named : length (idents (so-far .demands)) ≡ count = idents-length (so-far .demands) ∙ so-far .counted in
       rw (so-far .named, ← named) (take-padded 200 0 (idents (so-far .demands)))
 
   -- the end
@@ -156,13 +147,13 @@ module _ (S : ℕ) (links : List Link) (s : List ℕ) (start at count : ℕ) (ar
   pub used-length : length (take count used) ≡ count
   unfolding idents
   used-length =
-      ap length used-front ∙ length-map (so-far .demands) (λ (d : DemandView). d .ident) ∙ so-far .counted
+      ap length used-front ∙ idents-length (so-far .demands) ∙ so-far .counted
 
   -- their array has room for them
   pub used-room : count ≤ length used
   unfolding idents
   used-room =
-      let names : length (idents (so-far .demands)) ≡ count = length-map (so-far .demands) (λ (d : DemandView). d .ident) ∙ so-far .counted in
+      let names : length (idents (so-far .demands)) ≡ count = idents-length (so-far .demands) ∙ so-far .counted in
       let whole : length used ≡ 200 = ap length (so-far .named) ∙ length-padded 200 0 (idents (so-far .demands)) (rw names (so-far .few)) in
       omega (arith, so-far .few)
 
@@ -184,7 +175,7 @@ module _ (S : ℕ) (links : List Link) (s : List ℕ) (start at count : ℕ) (ar
       let left : 200 - count ≡ 201 - (count + 1) = omega arith in
       let next : List DemandView = so-far .demands ++ (demandIn s at ∷ []) in
       let packed : length (map packDemand (so-far .demands)) ≡ count = length-map (so-far .demands) packDemand ∙ so-far .counted in
-      let named : length (idents (so-far .demands)) ≡ count = length-map (so-far .demands) (λ (d : DemandView). d .ident) ∙ so-far .counted in
+      let named : length (idents (so-far .demands)) ≡ count = idents-length (so-far .demands) ∙ so-far .counted in
       record {
         demands = next;
         counted = length-append (so-far .demands) (demandIn s at ∷ []) ∙ ap (λ (n : ℕ). n + 1) (so-far .counted);

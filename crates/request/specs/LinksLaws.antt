@@ -17,13 +17,15 @@ use Rattle.request.specs.Check.{then}
 use Rattle.request.specs.Reading.{must, number16, bodyLength, fieldEnd, checkField, linkIn, checkLinkField, linksEnd, linksRefused, linksRead, nextLinks, readLinks}
 use Rattle.request.specs.Packing.{padded, packLinks}
 use Rattle.request.specs.CheckLaws.{first-sound, next-sound}
-use Rattle.request.specs.ReadingLaws.{test-held, FieldHolds, field-holds}
+use Rattle.request.specs.ReadingLaws.{test-held, field-holds}
 use Rattle.request.specs.PackingLaws.{set-padded}
+use Rattle.request.specs.Fields.{FieldHolds, LinkHolds}
+use Rattle.request.specs.SoFar.{LinksSoFar}
 
--- 2: where a link must stand and the file has ended
-pub link-missing : (s : List ℕ) (at count : ℕ) → length s ≤ at → Refused (WrongTag at) ≡ checkLinkField s at count
+-- 2 at the file's length: where a link must stand and the file has ended
+pub link-missing : (s : List ℕ) (at count : ℕ) → at ≡ length s → Refused (WrongTag (length s)) ≡ checkLinkField s at count
 unfolding checkLinkField then must
-link-missing s at count none = rw (le-ltb at (length s) none)
+link-missing s at count done = rw (le-ltb at (length s) (omega arith))
 
 module _ (s : List ℕ) (at count : ℕ) (some : at < length s) where
   -- the faults that every field may have
@@ -48,16 +50,11 @@ module _ (s : List ℕ) (at count : ℕ) (some : at < length s) where
   link-sound sound few differ =
       rw (lt-ltb at (length s) some, ← sound, lt-ltb count 64 few, ne-eqb (getD s (at + 3) 0) (getD s (at + 4) 0) differ)
 
--- what a sound link's field says: it is a whole field of 2 bytes, there is room for the link, and it has two nodes
-pub record LinkHolds (s : List ℕ) (at count : ℕ) : Type 0 where
-  pub field : FieldHolds s at 2 2 2
-  pub room : count < 64
-  pub two-nodes : linkIn s at .from ≡ linkIn s at .to → ⊥
-
+-- a link's field that is sound says so
 pub link-holds : (s : List ℕ) (at count : ℕ) → checkLinkField s at count ≡ Sound → LinkHolds s at count
 unfolding checkLinkField
 link-holds s at count sound =
-    let one = next-sound (must (ltb at (length s)) (WrongTag at)) _ sound in
+    let one = next-sound (must (ltb at (length s)) (WrongTag (length s))) _ sound in
     let two = next-sound (checkField s at 2 2 2) _ one in
     let three : must (not (eqb (linkIn s at .from) (linkIn s at .to))) (BadLink at) ≡ Sound
     = next-sound (must (ltb count 64) (BadLink at)) _ two in
@@ -90,15 +87,6 @@ module _ (left : ℕ) (s : List ℕ) (at : ℕ) (links : List Link) where
       readLinks (suc left) s at links ≡ readLinks left s (fieldEnd s at) (links ++ (linkIn s at ∷ []))
   unfolding readLinks nextLinks
   links-more more sound = rw (more, ← sound)
-
--- the reading of the links after `count` of them: the array holds them, and what follows decides the rest
-pub record LinksSoFar (s : List ℕ) (at count : ℕ) (array : List Link) : Type 0 where
-  pub links : List Link
-  pub counted : length links ≡ count
-  pub few : count ≤ 64
-  pub within : at ≤ length s
-  pub stored : array ≡ padded 64 noLink links
-  pub goes-on : readLinks (65 - count) s at links ≡ readLinks 65 s 8 []
 
 -- before the first
 pub links-begin : (s : List ℕ) → 8 ≤ length s → LinksSoFar s 8 0 (replicate 64 noLink)

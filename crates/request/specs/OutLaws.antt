@@ -1,33 +1,31 @@
 -- Writing a request: what the answer is, and what the buffer holds.
 use Prim.Native.Nat.{ℕ, _+_, _*_, _≤_, _<_}
-use mathlib.Core.List.{List, _++_, map, append-assoc}
-use mathlib.Core.Path.{_≡_, ap, _∙_}
+use mathlib.Core.List.{List, _++_, append-assoc}
+use mathlib.Core.Path.{_≡_, sym, ap, _∙_}
+use mathlib.Core.Bool.{true, false, cond}
 use native.Mathlib.Omega.{arith}
-use borrow.Author.Tests.{le-leb, lt-leb}
-use lib.ListN.{length, take, drop, length-append}
+use borrow.Author.Tests.{leb-true, le-leb, lt-leb}
+use lib.Dec.{leb}
+use lib.ListN.{length, drop, length-append}
 use lib.Seq.{sets, sets-eq}
 use Rattle.refusal.specs.declared.Refusal.{Refusal}
 use Rattle.refusal.specs.declared.Refusal.the-variants.{BufferShort}
 use Rattle.request.specs.declared.Request.{Request}
 use Rattle.request.specs.declared.Checked.the-variants.{Sound, Refused}
 use Rattle.request.specs.declared.Written.the-variants.{Wrote, Refused as Unwritten}
-use Rattle.request.specs.View.{View, view, viewDemand}
+use Rattle.request.specs.View.{View, view}
 use Rattle.request.specs.Check.{check}
 use Rattle.request.specs.Encoding.{bandField, linkFields, demandFields, encode}
+use Rattle.request.specs.TestLaws.{by-test}
+use Rattle.request.specs.ReadingLaws.{by-check}
 use Rattle.request.specs.Whole.{Whole}
 use Rattle.request.specs.LimitsLaws.{checked-limits, checked-demands}
-use Rattle.request.specs.Writing.{writeReply, written, filled, outAfter, RoutesFit}
+use Rattle.request.specs.Writing.{writeReply, written, filled, outAfter}
 use Rattle.request.specs.EncodingLaws.{band-bytes, links-bytes, file-bytes}
 use Rattle.request.specs.WritingLaws.{sets-then}
+use Rattle.request.specs.Ready.{Ready}
 
--- what the writer may rely on: a sound request keeps its limits, and its file has so many bytes
-pub record Ready (r : Request) : Type 0 where
-  pub few-links : r .«link_count» ≤ 64
-  pub few-demands : r .«demand_count» ≤ 200
-  pub routes-fit : RoutesFit (r .demands) (r .«demand_count»)
-  pub all-links : length (take (r .«link_count») (r .links)) ≡ r .«link_count»
-  pub bytes : length (encode (view r)) ≡ 8 + 5 * r .«link_count» + length (demandFields (map viewDemand (take (r .«demand_count») (r .demands))))
-
+-- a sound request is ready to be written
 pub ready : (r : Request) → Whole r → check (view r) ≡ Sound → Ready r
 unfolding view
 ready r whole sound =
@@ -70,17 +68,33 @@ module _ (v : View) (out : List ℕ) where
   unfolding written writeReply
   wrote-answer needed sound bytes room = rw (← sound, ← bytes, le-leb needed (length out) room)
 
-  wrote-out : Sound ≡ check v → length (encode v) ≤ length out → sets out 0 (encode v) ≡ outAfter v out
+  -- it stands at the front, and the rest is as it was
+  pub wrote-front : Sound ≡ check v → length (encode v) ≤ length out → outAfter v out ≡ encode v ++ drop (length (encode v)) out
   unfolding outAfter written writeReply filled
+  wrote-front sound room = rw (← sound, le-leb (length (encode v)) (length out) room)
+
+  -- what an answer of bytes says: the request is sound, they are its file's, and there was room
+  pub wrote-says : (bytes : ℕ) → written v out ≡ Wrote bytes → (check v ≡ Sound) × (bytes ≡ length (encode v)) × (length (encode v) ≤ length out)
+  unfolding written writeReply
+  wrote-says bytes e =
+      by-check (check v)
+      (λ (sound : check v ≡ Sound).
+      let answer : cond (leb (length (encode v)) (length out)) (Wrote (length (encode v))) (Unwritten (BufferShort (length (encode v)))) ≡ Wrote bytes = rw sound at e in
+      by-test (leb (length (encode v)) (length out))
+      (λ (room : leb (length (encode v)) (length out) ≡ true).
+      let same : Wrote (length (encode v)) ≡ Wrote bytes = rw room at answer in
+      (sound, cc, leb-true (length (encode v)) (length out) room))
+      (λ (short : leb (length (encode v)) (length out) ≡ false).
+      let no : Unwritten (BufferShort (length (encode v))) ≡ Wrote bytes = rw short at answer in
+      absurd (let z : _≡_ {A = ℕ} 0 1 = cc in omega arith)))
+      (λ (why : Refusal) (fault : check v ≡ Refused why).
+      let no : Unwritten why ≡ Wrote bytes = rw fault at e in
+      absurd (let z : _≡_ {A = ℕ} 0 1 = cc in omega arith))
+
+  wrote-out : Sound ≡ check v → length (encode v) ≤ length out → sets out 0 (encode v) ≡ outAfter v out
   wrote-out sound room =
-      rw (← sound, le-leb (length (encode v)) (length out) room)
-      (sets-eq (encode v) out 0 (omega arith) ∙ same)
-    where
-      same : take 0 out ++ (encode v ++ drop (0 + length (encode v)) out) ≡ encode v ++ drop (length (encode v)) out
-      same = ap (λ (n : ℕ). encode v ++ drop n out) zero-plus
-        where
-          zero-plus : 0 + length (encode v) ≡ length (encode v)
-          zero-plus = omega arith
+      let same : 0 + length (encode v) ≡ length (encode v) = omega arith in
+      sets-eq (encode v) out 0 (omega arith) ∙ ap (λ (n : ℕ). encode v ++ drop n out) same ∙ sym (wrote-front sound room)
 
   -- band, links and demands stored one after the other are the file
   pub all-stored : (one two three : List ℕ) (at : ℕ) → Sound ≡ check v → length (encode v) ≤ length out → at ≡ 8 + 5 * length (v .links) →

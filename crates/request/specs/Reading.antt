@@ -45,7 +45,7 @@ checkField s at tag least most =
     (then (must (eqb (getD s at 0) tag) (WrongTag at))
     (must (leb least (bodyLength s at) && leb (bodyLength s at) most) (WrongLength at)))
 
--- the first field is the band's: 2 where the file is empty, then 4
+-- the first field is the band's: 2 at the file's length where there is none, then 4
 unfoldable pub bandIn : List ℕ → Band
 unfolding number16 signed16
 bandIn s = record { n0 = signed16 (number16 s 3); slots = number16 s 5; guard = getD s 7 0 }
@@ -53,18 +53,18 @@ bandIn s = record { n0 = signed16 (number16 s 3); slots = number16 s 5; guard = 
 unfoldable pub checkBandField : List ℕ → Checked
 unfolding then must checkField bandIn
 checkBandField s =
-    then (must (ltb 0 (length s)) (WrongTag 0))
+    then (must (ltb 0 (length s)) (WrongTag (length s)))
     (then (checkField s 0 1 5 5)
     (must (allowedBand (bandIn s)) (BandOutside 0)))
 
--- a link's field after so many links: 2 where the file has ended, then 5: the count, then the ends
+-- a link's field after so many links: 2 at the file's length where it has ended, then 5: the count, then the ends
 unfoldable pub linkIn : List ℕ → ℕ → Link
 linkIn s at = record { from = getD s (at + 3) 0; to = getD s (at + 4) 0 }
 
 unfoldable pub checkLinkField : List ℕ → ℕ → ℕ → Checked
 unfolding then must checkField linkIn
 checkLinkField s at count =
-    then (must (ltb at (length s)) (WrongTag at))
+    then (must (ltb at (length s)) (WrongTag (length s)))
     (then (checkField s at 2 2 2)
     (then (must (ltb count 64) (BadLink at))
     (must (not (eqb (linkIn s at .from) (linkIn s at .to))) (BadLink at))))

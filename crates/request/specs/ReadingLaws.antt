@@ -11,23 +11,23 @@ use Rattle.refusal.specs.declared.Refusal.{Refusal}
 use Rattle.refusal.specs.declared.Refusal.the-variants.{PastEnd, WrongTag, WrongLength, BandOutside}
 use Rattle.grid.specs.Grid.{allowedBand}
 use Rattle.grid.specs.ReplyLaws.{first-of-both, second-of-both}
+use Rattle.request.specs.declared.Checked.{Checked}
 use Rattle.request.specs.declared.Checked.the-variants.{Sound, Refused}
 use Rattle.request.specs.Check.{then}
 use Rattle.request.specs.Reading.{must, number16, bodyLength, fieldEnd, checkField, bandIn, checkBandField}
 use Rattle.request.specs.CheckLaws.{first-sound, next-sound}
+use Rattle.request.specs.Fields.{FieldHolds}
+
+-- a check is sound or refused, and which of the two is known
+pub by-check : {C : Type 0} (answer : Checked) → (answer ≡ Sound → C) → ((why : Refusal) → answer ≡ Refused why → C) → C
+by-check Sound sound refused = sound refl
+by-check (Refused why) sound refused = refused why refl
 
 -- a test that is sound holds
 pub test-held : (test : Bool) (why : Refusal) → must test why ≡ Sound → test ≡ true
 unfolding must
 test-held true why e = refl
 test-held false why e = absurd (let z : _≡_ {A = ℕ} 0 1 = cc in omega arith)
-
--- what a sound field says: it ends within the file, its tag is the one that must stand there, its length is least to most
-pub record FieldHolds (s : List ℕ) (at tag least most : ℕ) : Type 0 where
-  pub within : at + 3 + number16 s (at + 1) ≤ length s
-  pub tagged : getD s at 0 ≡ tag
-  pub long-enough : least ≤ number16 s (at + 1)
-  pub short-enough : number16 s (at + 1) ≤ most
 
 module _ (s : List ℕ) (at tag least most : ℕ) where
   -- 1: a field that runs past the end
@@ -76,7 +76,7 @@ module _ (s : List ℕ) (at tag least most : ℕ) where
 -- a file's first field: 2 where there is none
 pub band-missing : (s : List ℕ) → length s ≡ 0 → Refused (WrongTag 0) ≡ checkBandField s
 unfolding checkBandField then must
-band-missing s none = rw (le-ltb 0 (length s) (omega arith))
+band-missing s none = rw none
 
 module _ (s : List ℕ) (some : 0 < length s) where
   -- the faults that every field may have
@@ -103,7 +103,7 @@ field-within s at h = h .within
 pub band-holds : (s : List ℕ) → checkBandField s ≡ Sound → FieldHolds s 0 1 5 5 × (allowedBand (bandIn s) ≡ true)
 unfolding checkBandField
 band-holds s sound =
-    let rest = next-sound (must (ltb 0 (length s)) (WrongTag 0)) _ sound in (
+    let rest = next-sound (must (ltb 0 (length s)) (WrongTag (length s))) _ sound in (
       field-holds s 0 1 5 5 (first-sound (checkField s 0 1 5 5) _ rest),
       test-held (allowedBand (bandIn s)) (BandOutside 0) (next-sound (checkField s 0 1 5 5) _ rest),
     )

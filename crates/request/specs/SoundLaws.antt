@@ -32,7 +32,7 @@ refused-not-sound : {C : Type 0} (why : Refusal) → Refused why ≡ Sound → C
 refused-not-sound why h = absurd (let z : _≡_ {A = ℕ} 0 1 = cc in omega arith)
 
 -- a choice between refusal and sound that is sound had a test that failed
-not-refused : (b : Bool) (why : Refusal) → cond b (Refused why) Sound ≡ Sound → b ≡ false
+pub not-refused : (b : Bool) (why : Refusal) → cond b (Refused why) Sound ≡ Sound → b ≡ false
 not-refused true why h = refused-not-sound why h
 not-refused false why h = refl
 
@@ -65,7 +65,7 @@ two-nodes-pass i (l ∷ links) each =
     two-nodes-pass (i + 1) links (λ (k : ℕ) (h : k < length links). each (suc k) (omega arith))
 
 -- a demand that is found sound has passed
-sound-passes : (S : ℕ) (links : List Link) (earlier : List ℕ) (i : ℕ) (d : DemandView) →
+pub sound-passes : (S : ℕ) (links : List Link) (earlier : List ℕ) (i : ℕ) (d : DemandView) →
     checkDemand S links earlier i d ≡ Sound → Passes S links earlier d
 unfolding checkDemand
 sound-passes S links earlier i d sound =
@@ -158,13 +158,13 @@ sound-demand-passes S count links earlier d all routed new sound =
     }
 
 -- six checks that each pass pass together
-all-pass : (a b c d e f : Checked) → a ≡ Sound → b ≡ Sound → c ≡ Sound → d ≡ Sound → e ≡ Sound → f ≡ Sound →
+pub all-pass : (a b c d e f : Checked) → a ≡ Sound → b ≡ Sound → c ≡ Sound → d ≡ Sound → e ≡ Sound → f ≡ Sound →
     then a (then b (then c (then d (then e f)))) ≡ Sound
 unfolding then
 all-pass a b c d e f ha hb hc hd he hf = rw (ha, hb, hc, hd, he) hf
 
 -- where six checks pass together, each passes
-each-passes : (a b c d e f : Checked) → then a (then b (then c (then d (then e f)))) ≡ Sound →
+pub each-passes : (a b c d e f : Checked) → then a (then b (then c (then d (then e f)))) ≡ Sound →
     (a ≡ Sound) × (b ≡ Sound) × (c ≡ Sound) × (d ≡ Sound) × (e ≡ Sound) × (f ≡ Sound)
 each-passes a b c d e f h =
     let from-b = next-sound a (then b (then c (then d (then e f)))) h in

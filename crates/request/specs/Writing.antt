@@ -1,12 +1,10 @@
 -- Writing a request as a file: the answer, and what the buffer holds afterwards.
-use Prim.Native.Nat.{ℕ, _≤_, _<_}
+use Prim.Native.Nat.{ℕ}
 use mathlib.Core.Bool.{cond}
-use mathlib.Core.List.{List, [], _++_}
-use mathlib.Core.Path.{_≡_}
-use lib.ListN.{length, getD, drop}
+use mathlib.Core.List.{List, _++_}
+use lib.ListN.{length, drop}
 use lib.Dec.{leb}
 use Rattle.refusal.specs.declared.Refusal.the-variants.{BufferShort}
-use Rattle.request.specs.declared.Demand.{Demand}
 use Rattle.request.specs.declared.Checked.{Checked}
 use Rattle.request.specs.declared.Checked.the-variants.{Sound, Refused}
 use Rattle.request.specs.declared.Written.{Written}
@@ -34,13 +32,3 @@ filled (Unwritten why) file out = out
 unfoldable pub outAfter : View → List ℕ → List ℕ
 unfolding encode written filled
 outAfter v out = filled (written v out) (encode v) out
-
--- what a read of an array's entry gives where there is none
-abbrev pub noEntry : Demand
-noEntry = record { ident = 0; width = 0; hops = 0; links = [] }
-
--- the first `count` demands of an array have routes within their own arrays of 32
-pub record RoutesFit (demands : List Demand) (count : ℕ) : Type 0 where
-  pub within : count ≤ length demands
-  pub each-short : (k : ℕ) → k < count → getD demands k noEntry .hops ≤ 32
-  pub each-whole : (k : ℕ) → k < count → length (getD demands k noEntry .links) ≡ 32

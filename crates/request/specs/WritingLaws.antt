@@ -11,8 +11,8 @@ use Rattle.request.specs.declared.Link.{Link}
 use Rattle.request.specs.declared.Demand.{Demand}
 use Rattle.request.specs.View.{viewDemand, noLink}
 use Rattle.request.specs.Encoding.{twoBytes, bits16, field, bandField, linkField, demandField, linkFields, demandFields}
-use Rattle.request.specs.Writing.{noEntry, RoutesFit}
 use Rattle.request.specs.EncodingLaws.{demand-bytes, links-bytes, links-follow, demands-follow}
+use Rattle.request.specs.Ready.{noEntry, RoutesFit}
 
 -- what is stored behind a run of stores makes the run longer
 pub sets-then : (out : List ℕ) (at : ℕ) (xs ys : List ℕ) (next : ℕ) → next ≡ at + length xs → sets (sets out at xs) next ys ≡ sets out at (xs ++ ys)

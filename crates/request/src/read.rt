@@ -192,8 +192,9 @@ fn check_link_field(file: &[u8], at: usize, count: usize) -> Checked
     requires { ⌜ at ≤ length (now file) ⌝ }
     ensures { λ r. ⌜ r ≡ checkLinkField (now (file .entry)) at count ⌝ }
 {
-    if at == file.len() {
-        return Checked::Refused(Refusal::WrongTag(at));
+    let size = file.len();
+    if at == size {
+        return Checked::Refused(Refusal::WrongTag(size));
     }
     let answer = check_field(file, at, 2, 2, 2);
     if let Checked::Refused(why) = answer {

@@ -17,7 +17,8 @@ ghost use lib.Seq.{sets};
 ghost use lib.Signed.{ltZ};
 ghost use Rattle.request.specs.View.{view, viewDemand};
 ghost use Rattle.request.specs.Encoding.{twoBytes, bits16, bandField, linkField, linkFields, demandField, demandFields};
-ghost use Rattle.request.specs.Writing.{written, outAfter, RoutesFit};
+ghost use Rattle.request.specs.Writing.{written, outAfter};
+ghost use Rattle.request.specs.Ready.{RoutesFit};
 
 // Tests the request, then the buffer, and writes the request's file to the front of the buffer. A refusal writes nothing.
 pub fn write_request(request: Request, out: &mut [u8]) -> Written

@@ -9,7 +9,7 @@ use Rattle.request.proofs.read.check_link_field.Statement.{statement}
 use Rattle.request.proofs.read.check_link_field.Tie as tie
 
 returns : tie.Need-returns
-returns c = link-missing (now (c .before .before .args .file)) (c .before .before .args .at) (c .before .before .args .count) (omega arith)
+returns c = link-missing (now (c .before .before .args .file)) (c .before .before .args .at) (c .before .before .args .count) (c .if1 .taken)
 
 check-field-requires : tie.Need-check-field-requires
 check-field-requires c κs = search needs

@@ -5,7 +5,8 @@ use native.Mathlib.Omega.{arith}
 use borrow.Author.Needs.{needs}
 use denote.Ref.{now}
 use lib.ListN.{length, take, replicate}
-use Rattle.request.specs.DemandsLaws.{used-room, DemandsSoFar, demands-begin, demands-finish, demands-fail, demands-step, field-first, demand-here, demand-room, used-length}
+use Rattle.request.specs.SoFar.{DemandsSoFar}
+use Rattle.request.specs.DemandsLaws.{used-room, demands-begin, demands-finish, demands-fail, demands-step, field-first, demand-here, demand-room, used-length}
 use Rattle.request.specs.declared.Demand.{Demand}
 use Rattle.request.proofs.read.read_demands.Statement.{statement}
 use Rattle.request.proofs.read.read_demands.Tie as tie

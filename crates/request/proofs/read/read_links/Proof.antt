@@ -5,7 +5,8 @@ use native.Mathlib.Omega.{arith}
 use borrow.Author.Needs.{needs}
 use denote.Ref.{now}
 use Rattle.request.specs.View.{noLink}
-use Rattle.request.specs.LinksLaws.{LinksSoFar, link-holds, links-begin, links-finish, links-fail, links-step, refused-end}
+use Rattle.request.specs.SoFar.{LinksSoFar}
+use Rattle.request.specs.LinksLaws.{link-holds, links-begin, links-finish, links-fail, links-step, refused-end}
 use Rattle.request.proofs.read.read_links.Statement.{statement}
 use Rattle.request.proofs.read.read_links.Tie as tie
 
