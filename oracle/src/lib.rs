@@ -18,6 +18,7 @@ pub mod plan;
 pub mod plan_file;
 pub mod request;
 pub mod request_file;
+pub mod requests;
 pub mod rules;
 pub mod slips;
 pub mod sound;

@@ -2,11 +2,13 @@
 
 use oracle::frames::{call_of, frame_of, next_frame, Call};
 use oracle::rules::Rules;
-use oracle::{answers, best, census, laws, lightplan, make, variants};
+use oracle::{answers, best, census, laws, lightplan, make, requests, variants};
 use std::io::{self, Read, Write};
+use std::path::Path;
 use std::process::ExitCode;
 
-const USAGE: &str = "usage: oracle answer | check-best | check-laws | variants | census | lightplan  < input
+const USAGE: &str =
+    "usage: oracle answer | check-best | check-laws | variants | census | lightplan | requests FOLDER  < input
        oracle make stored | make random SEED COUNT | make small SEED COUNT | make malformed [NUMBER]";
 
 fn main() -> ExitCode {
@@ -30,6 +32,7 @@ fn run(words: &[&str]) -> Result<bool, String> {
         ["variants"] => Ok(variants::show(&input_calls()?)),
         ["census"] => print(&joined_lines(&census::census(&input_calls()?))),
         ["lightplan"] => print(lightplan::lightplan(&input()?, &Rules::right()).as_bytes()),
+        ["requests", folder] => write_requests(Path::new(folder)),
         ["make", "stored"] => print(&frames(&make::stored())),
         ["make", "random", seed, count] => print(&frames(&make::random(number(seed)?, number(count)? as usize))),
         ["make", "small", seed, count] => print(&frames(&make::small(number(seed)?, number(count)? as usize))),
@@ -59,6 +62,11 @@ fn input_calls() -> Result<Vec<Call>, String> {
         calls.push(call.ok_or_else(|| format!("frame {} is malformed", calls.len() + 1))?);
     }
     Ok(calls)
+}
+
+fn write_requests(folder: &Path) -> Result<bool, String> {
+    let count = requests::write_all(&input_calls()?, folder).map_err(|error| error.to_string())?;
+    print(format!("{count}\n").as_bytes())
 }
 
 fn print(bytes: &[u8]) -> Result<bool, String> {

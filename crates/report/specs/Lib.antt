@@ -6,3 +6,6 @@ pub mod LinesLaws
 pub mod SignedLaws
 pub mod Rows
 pub mod RowsLaws
+pub mod Report
+pub mod ReportLaws
+pub mod ReportExample

@@ -4,6 +4,7 @@ use mathlib.Core.List.{List, [], _++_}
 use mathlib.Core.Path.{_≡_, ap, sym, _∙_}
 use native.Mathlib.Omega.{arith}
 use native.Mathlib.Numerals.{add-one}
+use borrow.Author.Tests.{le-leb}
 use lib.IntN.{ℤ, pos, _*ℤ_}
 use lib.ListN.{length, drop, getD, drop-of-length-le}
 use lib.Seq.{drop-cons}
@@ -12,11 +13,13 @@ use Rattle.refusal.specs.declared.Refusal.{Refusal}
 use Rattle.grid.specs.declared.Band.{Band}
 use Rattle.grid.specs.declared.Frequency.{Frequency}
 use Rattle.grid.specs.declared.FrequencyReply.the-variants.{Centred, Refused}
-use Rattle.grid.specs.Grid.{frequencyReply, centralNumber, centralMHz}
+use Rattle.grid.specs.Grid.{frequencyReply, centralNumber, centralMHz, frequencyOf}
+use Rattle.grid.specs.ReplyLaws.{frequency-centred}
 use Rattle.grid.specs.GridLaws.{centres}
 use Rattle.grid.specs.SignedLaws.{mag-sum, mag-6250}
 use Rattle.request.specs.declared.Request.{Request}
-use Rattle.request.specs.View.{DemandView, view, viewDemand, demandAt, noDemand}
+use Rattle.request.specs.View.{DemandView, View, view, viewDemand, demandAt, noDemand}
+use Rattle.request.specs.Sound.{SoundRequest}
 use Rattle.request.specs.ViewLaws.{demands-shown, demand-shown}
 use Rattle.report.specs.declared.Page.{Page}
 use Rattle.report.specs.Text.{appended}
@@ -75,3 +78,17 @@ row-on r starts k page all all-starts few h e =
 pub rows-done : (r : Request) (starts : List ℕ) (k : ℕ) → r .«demand_count» ≤ k → rows (r .band) (drop k (view r .demands)) (drop k starts) ≡ []
 unfolding rows
 rows-done r starts k h = rw (drop-of-length-le (view r .demands) {i = k} (omega (arith, demands-shown r)))
+
+-- in a sound request a demand whose end is within the band has its row, with its central number and frequency
+pub row-stands : (v : View) (k start : ℕ) → SoundRequest v → k < v .demandCount → start + demandAt (v .demands) k .width ≤ v .band .slots →
+    demandRow (v .band) (demandAt (v .demands) k) start
+    ≡ rowLine (demandAt (v .demands) k .ident) start (start + demandAt (v .demands) k .width)
+    (centralNumber (v .band .n0) start (demandAt (v .demands) k .width)) (centralMHz (centralNumber (v .band .n0) start (demandAt (v .demands) k .width)))
+row-stands v k start sound h within =
+    let d = demandAt (v .demands) k in
+    let good = sound .demands-sound k h in
+    let S = v .band .slots in
+    row-centred (v .band) d start (frequencyOf (v .band .n0) start (d .width))
+    (frequency-centred (v .band) start (d .width) (sound .band-allowed)
+    (rw (le-leb 1 (d .width) (good .some-width), le-leb (d .width) S (good .width-in-band)))
+    (le-leb (start + d .width) S within))

@@ -2,12 +2,19 @@
 use grid::Band;
 use grid::FrequencyReply;
 use grid::to_frequency;
+use refusal::Refusal;
+use request::Checked;
 use request::Demand;
 use request::Request;
+use request::read_request;
+use search::Answer;
+use search::Outcome;
+use search::SearchReply;
+use search::search;
 ghost use mathlib.Core.Path.{_≡_};
 ghost use mathlib.Core.Bool.{true};
 ghost use Prim.Native.Nat.{_+_, _≤_, _<_};
-ghost use mathlib.Core.List.{List, [], _∷_};
+ghost use mathlib.Core.List.{List, [], _∷_, _++_};
 ghost use lib.ListN.{length};
 ghost use lib.IntN.{pos, natAbs};
 ghost use lib.Signed.{ltZ, mag};
@@ -15,6 +22,7 @@ ghost use Rattle.report.specs.Text.{decimal, decimalSigned, emptyPage, a
 ghost use Rattle.request.specs.View.{view, viewDemand};
 ghost use Rattle.report.specs.Lines.{named, namedSigned, answerLine, rowLine, refusedLine};
 ghost use Rattle.report.specs.Rows.{demandRow, rows};
+ghost use Rattle.report.specs.Report.{refusalText, answerText, planText, requestText, reportText};
 
 // A page of text: the first `len` bytes count, the others are 0.
 pub struct Page {
@@ -131,6 +139,7 @@ fn answer_line(word: &[u8], end: u64, bound: u64, steps: u64, reached: u64, rule
 // The line of a refusal, on a page of its own.
 fn refused_line(number: u64, place: u64) -> Page
     ensures { λ r. ⌜ r ≡ pageOf (refusedLine number place) ⌝ }
+    ensures { λ r. ⌜ r .len ≤ 1024 ⌝ }
 {
     let mut page = put_text(Page::empty(), b"refused");
     page = put_named(page, b" ", number);
@@ -179,6 +188,7 @@ fn put_rows(page: Page, request: Request, starts: [u16; 20]) -> Page
     requires { ⌜ page .len + 780 ≤ 1024 ⌝ }
     requires { ⌜ request .«demand_count» ≤ 20 ⌝ }
     ensures { λ r. ⌜ r ≡ appended page (rows (request .band) (view request .demands) starts) ⌝ }
+    ensures { λ r. ⌜ r .len ≤ 1024 ⌝ }
 {
     let band = request.band;
     let count = request.demand_count;
@@ -190,4 +200,90 @@ fn put_rows(page: Page, request: Request, starts: [u16; 20]) -> Page
         k += 1;
     }
     next
+}
+
+// The page of a refusal.
+fn refused_page(why: Refusal) -> Page
+    ensures { λ r. ⌜ r ≡ pageOf (refusalText why) ⌝ }
+    ensures { λ r. ⌜ r .len ≤ 1024 ⌝ }
+{
+    let number = why.number();
+    let place = why.place();
+    refused_line(number as u64, place as u64)
+}
+
+// The page of an answer's first line.
+fn answer_page(answer: Answer) -> Page
+    ensures { λ r. ⌜ r ≡ pageOf (answerText answer) ⌝ }
+    ensures { λ r. ⌜ r .len ≤ 146 ⌝ }
+{
+    let outcome = answer.outcome;
+    let bound = answer.bound as u64;
+    let steps = answer.steps as u64;
+    let reached = answer.reached;
+    let ruled = answer.ruled;
+    match outcome {
+        Outcome::Finished(end) => answer_line(
+            b"finished",
+            end as u64,
+            bound,
+            steps,
+            reached,
+            ruled,
+        ),
+        Outcome::NothingFits => answer_line(b"nofit", 0, bound, steps, reached, ruled),
+        Outcome::Unfinished(end) => answer_line(
+            b"unfinished",
+            end as u64,
+            bound,
+            steps,
+            reached,
+            ruled,
+        ),
+        Outcome::UnfinishedEmpty => answer_line(b"unfinished", 0, bound, steps, reached, ruled),
+    }
+}
+
+// The page of an answer: its line, and its plan's rows where it has a plan.
+fn answered_page(answer: Answer, request: Request, starts: [u16; 20]) -> Page
+    requires { ⌜ request .«demand_count» ≤ 20 ⌝ }
+    ensures { λ r. ⌜ r ≡ pageOf (answerText answer ++ planText (answer .outcome) (rows (request .band) (view request .demands) starts)) ⌝ }
+    ensures { λ r. ⌜ r .len ≤ 1024 ⌝ }
+{
+    let page = answer_page(answer);
+    let outcome = answer.outcome;
+    match outcome {
+        Outcome::Finished(_) => put_rows(page, request, starts),
+        Outcome::NothingFits => page,
+        Outcome::Unfinished(_) => put_rows(page, request, starts),
+        Outcome::UnfinishedEmpty => page,
+    }
+}
+
+// The page of a request: it is searched, and the answer is told.
+fn request_page(request: Request) -> Page
+    ensures { λ r. ⌜ r ≡ pageOf (requestText (view request)) ⌝ }
+    ensures { λ r. ⌜ r .len ≤ 1024 ⌝ }
+{
+    let mut starts = [0u16; 20];
+    let mut order = [0u16; 20];
+    let reply = search(request, 1_000_000, &mut starts, &mut order);
+    match reply {
+        SearchReply::Answered(answer) => answered_page(answer, request, starts),
+        SearchReply::Refused(why) => refused_page(why),
+    }
+}
+
+// What is printed for a request file: the answer to its search with a limit of 1,000,000 steps, or the refusal.
+pub fn report_on(file: &[u8]) -> Page
+    ensures { λ r. ⌜ r ≡ pageOf (reportText (now (file .entry))) ⌝ }
+    ensures { λ r. ⌜ r .len ≤ 1024 ⌝ }
+{
+    let reading = read_request(file);
+    let verdict = reading.verdict;
+    let request = reading.request;
+    match verdict {
+        Checked::Sound => request_page(request),
+        Checked::Refused(why) => refused_page(why),
+    }
 }

@@ -60,8 +60,12 @@ loop-again c =
 returns : tie.Need-returns Inv-loop μ-loop
 returns c =
     let start = c .before .before .before in
-    let met = c .before .loop in
-    sym (appended-none (met .next)) ∙ ap (appended (met .next)) (sym (rows-done (start .args .t2) (start .args .t3) (met .k) (omega arith))) ∙ met .inv .2
+    let met = c .before .loop in (
+      sym (appended-none (met .next))
+          ∙ ap (appended (met .next)) (sym (rows-done (start .args .t2) (start .args .t3) (met .k) (omega arith)))
+          ∙ met .inv .2,
+      omega arith,
+    )
 
 pub put-rows-spec : {M : Type 1} → statement M
 put-rows-spec =

@@ -3,7 +3,7 @@ use mathlib.Core.Path.{ap}
 use native.Mathlib.Omega.{arith}
 use borrow.Author.Needs.{needs}
 use Rattle.report.specs.declared.Page.{Page}
-use Rattle.report.specs.Text.{emptyPage}
+use Rattle.report.specs.Text.{emptyPage, appended}
 use Rattle.report.specs.Lines.{refused-word, space, newline}
 use Rattle.report.specs.LinesLaws.{refused-put}
 use Rattle.report.proofs.refused_line.Statement.{statement}
@@ -38,15 +38,17 @@ unfolding emptyPage
 put-byte-requires c κs = omega (arith, ap (λ (p : Page). p .len) (c .before .before .before .before .before .before .empty .ensures))
 
 returns : tie.Need-returns
-unfolding refused-word space newline
+unfolding emptyPage appended refused-word space newline
 returns c =
-    let a = c .before .before .before .before .before .before .before .before .args in
-    refused-put (a .number) (a .place)
-    (c .before .before .before .before .before .before .before .empty .ensures)
-    (c .before .before .before .before .before .put-text .ensures .0)
-    (c .before .before .before .put-named .ensures .0)
-    (c .before .put-named2 .ensures .0)
-    (c .put-byte .ensures)
+    let a = c .before .before .before .before .before .before .before .before .args in (
+      refused-put (a .number) (a .place)
+          (c .before .before .before .before .before .before .before .empty .ensures)
+          (c .before .before .before .before .before .put-text .ensures .0)
+          (c .before .before .before .put-named .ensures .0)
+          (c .before .put-named2 .ensures .0)
+          (c .put-byte .ensures),
+      omega (arith, ap (λ (p : Page). p .len) (c .before .before .before .before .before .before .before .empty .ensures), ap (λ (p : Page). p .len) (c .put-byte .ensures)),
+    )
 
 pub refused-line-spec : {M : Type 1} → statement M
 refused-line-spec =

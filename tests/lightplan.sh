@@ -1,0 +1,159 @@
+#!/usr/bin/env bash
+# Runs the program on request files: some made here with the lines they must give, the examples, and the second program's stored
+# and random ones. Every byte printed is compared. SEED=... repeats a run.
+# The last line counts the runs: "N passed, 0 failed". The first difference ends it with a non-zero status.
+set -euo pipefail
+cd "$(dirname "$0")/.."
+. tests/lib/x86.sh
+x86_ready
+
+program=target/bin/lightplan
+work=target/lightplan-test
+seed=${SEED:-$(od -An -N4 -tu4 /dev/urandom | tr -d ' ')}
+passed=0
+
+(cd oracle && CARGO_TARGET_DIR=target cargo build --release --offline --quiet)
+oracle=oracle/target/release/oracle
+rm -rf "$work"
+mkdir -p "$work/stored" "$work/random"
+
+# Compares what was printed with what was expected.
+same() {
+    if ! cmp "$2" "$3"; then
+        echo "FAILED: $1, seed $seed; printed:"
+        cat "$3"
+        exit 1
+    fi
+    passed=$((passed + 1))
+}
+
+# expect NAME LINE..: the program prints these lines for the file NAME, and the second program agrees.
+expect() {
+    local name=$1
+    shift
+    printf '%s\n' "$@" >"$work/expected"
+    x86_run "$program" <"$work/$name" >"$work/printed"
+    same "$name" "$work/expected" "$work/printed"
+    agree "$work/$name"
+}
+
+# agree FILE: the two programs print the same.
+agree() {
+    "$oracle" lightplan <"$1" >"$work/expected"
+    x86_run "$program" <"$1" >"$work/printed"
+    same "$1" "$work/expected" "$work/printed"
+}
+
+# Bytes given as numbers.
+bytes() {
+    local byte
+    for byte; do
+        printf "\\x$(printf %x "$byte")"
+    done
+}
+
+# band SLOTS GUARD, with the lower edge -284
+band() { bytes 1 0 5 254 228 $(($1 / 256)) $(($1 % 256)) "$2"; }
+
+# link FROM TO
+link() { bytes 2 0 2 "$1" "$2"; }
+
+# demand IDENT WIDTH LINK..
+demand() {
+    local ident=$1 width=$2
+    shift 2
+    bytes 3 0 $(($# + 4)) $((ident / 256)) $((ident % 256)) $((width / 256)) $((width % 256)) "$@"
+}
+
+# R: three demands on two links. worked SLOTS
+worked() {
+    band "$1" 0
+    link 0 1
+    link 1 2
+    demand 10 2 0
+    demand 20 1 0 1
+    demand 30 3 1
+}
+
+# alike COUNT: so many demands of width 1 on one link
+alike() {
+    local k
+    band 384 0
+    link 0 1
+    for ((k = 0; k < $1; k++)); do
+        demand $((65535 - k)) 1 0
+    done
+}
+
+# Round a ring of 64 links, 200 demands of 32 links each: as large as a request gets.
+largest() {
+    local k
+    band 384 8
+    for ((k = 0; k < 64; k++)); do
+        link $k $(((k + 1) % 64))
+    done
+    for ((k = 0; k < 200; k++)); do
+        demand $k 384 $(seq $((k % 33)) $((k % 33 + 31)))
+    done
+}
+
+# Round a triangle of three links, 20 demands of which each shares a link with each other: no end meets the bound.
+triangle() {
+    local k
+    band 384 0
+    link 0 1
+    link 1 2
+    link 2 0
+    for ((k = 0; k < 20; k++)); do
+        demand $k 1 $((k % 3)) $(((k + 1) % 3))
+    done
+}
+
+worked 384 >"$work/R"
+expect R 'finished end 4 bound 4 steps 5 reached 2 ruled 0' '10 0 2 -282 191337500' '20 3 4 -277 191368750' '30 0 3 -281 191343750'
+worked 3 >"$work/narrow"
+expect narrow 'nofit end 0 bound 4 steps 0 reached 0 ruled 6'
+: >"$work/empty"
+expect empty 'refused 2 0'
+band 384 0 >"$work/no-link"
+expect no-link 'refused 2 8'
+alike 0 >"$work/none"
+expect none 'finished end 0 bound 0 steps 0 reached 1 ruled 0'
+alike 1 >"$work/one"
+expect one 'finished end 1 bound 1 steps 1 reached 1 ruled 0' '65535 0 1 -283 191331250'
+alike 21 >"$work/twenty-one"
+expect twenty-one 'refused 11 21'
+largest >"$work/largest"
+expect largest 'refused 11 200'
+{ largest; bytes 0; } >"$work/one-byte-more"
+expect one-byte-more 'refused 20 8128'
+cat "$work"/largest{,}{,}{,}{,} >"$work/many-times"
+expect many-times 'refused 20 8128'
+alike 20 >"$work/twenty"
+agree "$work/twenty"
+triangle >"$work/triangle"
+agree "$work/triangle"
+[ "$(head -c 10 "$work/printed")" = unfinished ] || { echo "FAILED: triangle was not left unfinished"; exit 1; }
+
+# Input that comes in pieces is read to its end.
+for name in R largest many-times; do
+    "$oracle" lightplan <"$work/$name" >"$work/expected"
+    { head -c 20 "$work/$name"; sleep 0.1; tail -c +21 "$work/$name" | head -c 5000; sleep 0.1; tail -c +5021 "$work/$name"; } |
+        { x86_run "$program" >"$work/printed"; cat >/dev/null; } || true
+    same "$name in pieces" "$work/expected" "$work/printed"
+done
+
+for file in examples/*.request; do
+    agree "$file"
+done
+
+# The second program writes its requests, each beside the lines expected.
+echo "seed $seed"
+"$oracle" make stored | "$oracle" requests "$work/stored" >/dev/null
+"$oracle" make random "$seed" 2000 | "$oracle" requests "$work/random" >/dev/null
+for file in "$work"/{stored,random}/*.request; do
+    x86_run "$program" <"$file" >"$work/printed"
+    same "$file" "${file%.request}.lines" "$work/printed"
+done
+
+echo "$passed passed, 0 failed"
