@@ -1,8 +1,8 @@
 -- What the arrays of the search stand for: the problem, the rows placed, the path to them, and the tally.
-use Prim.Native.Nat.{ℕ, zero, suc, _+_}
-use mathlib.Core.Bool.{Bool, true, false}
+use Prim.Native.Nat.{ℕ, zero, suc}
+use mathlib.Core.Bool.{Bool, false}
 use mathlib.Core.List.{List, [], _∷_}
-use lib.ListN.{getD, take}
+use lib.ListN.{getD}
 use Rattle.theory.specs.Problem.{Problem, Row}
 use Rattle.theory.specs.Walk.{Best, none-met, met, Course, going, at-bound, out-of-steps, Tally}
 

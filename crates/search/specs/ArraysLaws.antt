@@ -1,6 +1,6 @@
 -- Reading the arrays: entries of a list one by one, and rows of an order one by one.
-use Prim.Native.Nat.{ℕ, zero, suc, _+_, _-_, _≤_, _<_, max}
-use mathlib.Core.Bool.{Bool, true, false}
+use Prim.Native.Nat.{ℕ, zero, suc, _+_, _-_, _≤_, _<_}
+use mathlib.Core.Bool.{true}
 use mathlib.Core.List.{List, [], _∷_, _++_}
 use mathlib.Core.Logic.{⊎-elim}
 use mathlib.Core.Path.{_≡_, refl, sym, subst, ap, _∙_}
@@ -8,9 +8,9 @@ use native.Mathlib.Nat.{eq-or-lt-of-le, le-of-suc-le-suc}
 use native.Mathlib.Numerals.{add-one}
 use native.Mathlib.Omega.{arith}
 use lib.ListN.{getD, length}
-use Rattle.theory.specs.Problem.{Problem, Row, endOf, apart, fits, past, lowest, top}
-use Rattle.theory.specs.ProblemLaws.{end-is, fits-nil, fits-with, fits-first, fits-rest, top-nil, top-cons}
-use Rattle.search.specs.Arrays.{problemOf, entries, rowsOf}
+use Rattle.theory.specs.Problem.{Problem, Row, endOf, apart, fits, top}
+use Rattle.theory.specs.ProblemLaws.{fits-nil, fits-with, fits-first, fits-rest, top-cons}
+use Rattle.search.specs.Arrays.{entries, rowsOf}
 
 -- what holds below a number and at it holds below the next
 below-next : (Q : ℕ → Type 0) (n : ℕ) → ((q : ℕ) → q < n → Q q) → Q n → (q : ℕ) → q < suc n → Q q

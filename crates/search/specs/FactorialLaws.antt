@@ -1,11 +1,11 @@
 -- Factorials of the numbers of demands that a search takes.
 use Prim.Native.Nat.{ℕ, zero, suc, _+_, _-_, _*_, _^_, _≤_, _<_}
-use mathlib.Core.Path.{_≡_, refl, sym, subst, ap, _∙_}
+use mathlib.Core.Path.{_≡_, refl, subst, ap, _∙_}
 use native.Mathlib.Omega.{arith}
 use native.Mathlib.Nat.{le-refl, le-trans, mul-le-mul-right, one-mul}
 use lib.Dec.{lit<}
 use Rattle.theory.specs.Orders.{factorial}
-use Rattle.theory.specs.OrdersLaws.{factorial-suc, factorial-pos}
+use Rattle.theory.specs.OrdersLaws.{factorial-suc}
 
 -- one more number never lowers the factorial
 pub factorial-rises : (n : ℕ) → factorial n ≤ factorial (suc n)

@@ -4,7 +4,7 @@ use mathlib.Core.Bool.{Bool, false}
 use mathlib.Core.List.{List, []}
 use mathlib.Core.Path.{_≡_}
 use lib.ListN.{getD, length}
-use Rattle.theory.specs.Problem.{Problem, lowest, top}
+use Rattle.theory.specs.Problem.{lowest, top}
 use Rattle.search.specs.Arrays.{problemOf, rowsOf}
 
 -- the sizes that a search takes: K demands, their widths and guard, and a table that reads alike both ways

@@ -1,7 +1,7 @@
 -- That the kept starts are the lowest ones, and how a demand that was put down moves them.
-use Prim.Native.Nat.{ℕ, zero, suc, _+_, _-_, _≤_, _<_, max}
+use Prim.Native.Nat.{ℕ, _+_, _-_, _≤_, _<_}
 use mathlib.Core.Bool.{Bool, true, false}
-use mathlib.Core.List.{List, [], _∷_, _++_}
+use mathlib.Core.List.{List, [], _∷_}
 use mathlib.Core.Logic.{⊎-elim}
 use mathlib.Core.Path.{_≡_, refl, sym, subst, ap, _∙_}
 use native.Mathlib.Nat.{eq-or-lt-of-le}
@@ -11,13 +11,13 @@ use lib.Dec.{ltb}
 use lib.ListN.{getD, set, length, length-set}
 use lib.Seq.{getD-set-same, getD-set-other}
 use Rattle.theory.specs.Problem.{Problem, Row, endOf, apart, fits, past, lowest, top}
-use Rattle.theory.specs.TestLaws.{by-test, not-both}
+use Rattle.theory.specs.TestLaws.{by-test}
 use Rattle.theory.specs.ApartLaws.{unjoined-apart, before-apart, after-apart, apart-cases, clash-from}
-use Rattle.theory.specs.ProblemLaws.{lowest-fits, lowest-least, lowest-past, lowest-stays, lowest-jumps, top-cons}
+use Rattle.theory.specs.ProblemLaws.{lowest-fits, lowest-least, lowest-past, lowest-stays, lowest-jumps}
 use Rattle.search.specs.Arrays.{problemOf, rowsOf}
 use Rattle.search.specs.ArraysLaws.{rows-more, rows-same, rows-fit, rows-apart, rows-end, rows-top}
 use Rattle.search.specs.Scan.{Clear, FirstClear}
-use Rattle.search.specs.Kept.{Sized, Place, Listed, Passed, Lowest, Ready, Mendable, Mended}
+use Rattle.search.specs.Kept.{Sized, Place, Listed, Passed, Lowest, Mendable, Mended}
 
 -- with one guard everywhere, past every row is no further than the top and the guard
 past-guarded : (table : List (List Bool)) (widths : List ℕ) (guard : ℕ) (rows : List Row) (i : ℕ) →

@@ -1,14 +1,13 @@
 -- The walk from its start, and what its end tells.
-use Prim.Native.Nat.{ℕ, zero, suc, _+_, _-_, _*_, _^_, _≤_, _<_, max}
-use mathlib.Core.Bool.{Bool, true, false, cond}
-use mathlib.Core.List.{List, [], _∷_, _++_, List·Memᴰ, List·Memᴰ·head, List·Memᴰ·not-nil, List·Memᴰ·cases-cons, Memᴰ·append-left, Memᴰ·append-right}
+use Prim.Native.Nat.{ℕ, zero, suc, _+_, _-_, _*_, _≤_, _<_}
+use mathlib.Core.Bool.{Bool}
+use mathlib.Core.List.{List, [], _∷_, List·Memᴰ, List·Memᴰ·head, List·Memᴰ·not-nil, List·Memᴰ·cases-cons, Memᴰ·append-left, Memᴰ·append-right}
 use mathlib.Core.Logic.{⊎-elim}
 use mathlib.Core.Path.{_≡_, refl, sym, subst, ap, _∙_}
 use native.Mathlib.Omega.{arith}
 use borrow.Author.Tests.{eqb-true, eqb-false, lt-ltb}
 use lib.Dec.{eqb, ltb}
-use lib.ListN.{getD, set, length, replicate, getD-replicate, length-replicate}
-use Rattle.theory.specs.Arrange.{Arrange}
+use lib.ListN.{getD, set, length, replicate, getD-replicate}
 use Rattle.theory.specs.ArrangeLaws.{arrange-back}
 use Rattle.theory.specs.ListingLaws.{listing-length, listing-mem}
 use Rattle.theory.specs.Orders.{factorial, countUp, listing, ordersOf}
@@ -17,14 +16,14 @@ use Rattle.theory.specs.Problem.{Problem, Row, fill, top, lowest, startIn}
 use Rattle.theory.specs.ProblemLaws.{lowest-nil, top-nil, start-here, start-other}
 use Rattle.theory.specs.Search.{fresh}
 use Rattle.theory.specs.TestLaws.{by-test}
-use Rattle.theory.specs.Tried.{Leads, unbeaten, taken, FirstLowest, Lead, leadOf, leadBy, Walked}
-use Rattle.theory.specs.Walk.{Best, none-met, met, Course, going, Tally, siblings, walk}
+use Rattle.theory.specs.Tried.{Leads, unbeaten, taken, Lead, leadOf, leadBy}
+use Rattle.theory.specs.Walk.{Best, none-met, met, Tally, siblings, walk}
 use Rattle.theory.specs.WalkBranchLaws.{walk-siblings}
 use Rattle.theory.specs.WalkLaws.{walk-walked, walked-leads, walk-mark, walk-steps-held}
 use Rattle.search.specs.Arrays.{problemOf, entries, rowsOf, courseOf, bestOf, tallyOf}
-use Rattle.search.specs.ArraysLaws.{entries-none, rows-none}
+use Rattle.search.specs.ArraysLaws.{rows-none}
 use Rattle.search.specs.FactorialLaws.{factorial-most}
-use Rattle.search.specs.Kept.{Sized, Place, Listed, Passed, Lowest, Ready}
+use Rattle.search.specs.Kept.{Sized, Lowest, Ready}
 use Rattle.search.specs.StepLaws.{orders-below}
 use Rattle.search.specs.Told.{isSpent, isMet}
 use Rattle.search.specs.Tries.{triedFrom, Counting}

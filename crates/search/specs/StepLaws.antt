@@ -1,7 +1,7 @@
 -- What trying a demand needs and does, in the terms of the arrays: one law for each way through the code.
 use Prim.Native.Nat.{ℕ, zero, suc, _+_, _-_, _*_, _^_, _≤_, _<_, max}
-use mathlib.Core.Bool.{Bool, true, false}
-use mathlib.Core.List.{List, [], _∷_, _++_}
+use mathlib.Core.Bool.{Bool, false}
+use mathlib.Core.List.{List, _∷_}
 use mathlib.Core.Path.{_≡_, refl, sym, subst, ap, _∙_}
 use native.Mathlib.Nat.{suc-mul}
 use native.Mathlib.Omega.{arith}
@@ -9,9 +9,9 @@ use lib.ListN.{getD, set, length, length-set}
 use lib.Seq.{getD-set-same, getD-set-other}
 use Rattle.theory.specs.Orders.{factorial}
 use Rattle.theory.specs.OrdersLaws.{factorial-suc, factorial-pos}
-use Rattle.theory.specs.Problem.{Problem, Row, endOf, place, top, lowest}
+use Rattle.theory.specs.Problem.{Problem, Row, endOf, place, top}
 use Rattle.theory.specs.ProblemLaws.{place-is, top-place}
-use Rattle.theory.specs.Walk.{Course, going, Tally, stepped, leave, exhausted, goes-on, complete}
+use Rattle.theory.specs.Walk.{Tally, stepped, leave, goes-on, complete}
 use Rattle.search.specs.Arrays.{problemOf, entries, rowsOf, courseOf, tallyOf}
 use Rattle.search.specs.ArraysLaws.{rows-more}
 use Rattle.search.specs.FactorialLaws.{factorial-fits}
@@ -19,7 +19,7 @@ use Rattle.search.specs.Kept.{Lowest, Ready}
 use Rattle.search.specs.KeptLaws.{kept-bounded}
 use Rattle.search.specs.TallyLaws.{cells-stepped, cells-left, cells-spent}
 use Rattle.search.specs.Tries.{reachedAt, triedFrom, goneInto, Counting}
-use Rattle.search.specs.TriesLaws.{complete-reached, tried-none, tried-spent, tried-last, tried-left, tried-into, tried-ended, gone-mark, gone-counts}
+use Rattle.search.specs.TriesLaws.{complete-reached, tried-spent, tried-last, tried-left, tried-into, tried-ended, gone-mark, gone-counts}
 
 -- the orders below the siblings from place p on are those below the one there and those below the rest
 siblings-orders : (K p f : ℕ) → p < K → (K - p) * f ≡ f + (K - (p + 1)) * f

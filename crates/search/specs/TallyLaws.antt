@@ -1,15 +1,15 @@
 -- The cells of a tally and the tally that they stand for: what each store into the cells does.
-use Prim.Native.Nat.{ℕ, zero, suc, _+_, _≤_, _<_}
-use mathlib.Core.Bool.{Bool, true, false, cond}
-use mathlib.Core.List.{List, [], _∷_}
-use mathlib.Core.Path.{_≡_, refl, sym, subst, ap, _∙_}
+use Prim.Native.Nat.{ℕ, _+_, _≤_, _<_}
+use mathlib.Core.Bool.{Bool, cond}
+use mathlib.Core.List.{List}
+use mathlib.Core.Path.{_≡_, sym, ap, _∙_}
 use native.Mathlib.Omega.{arith}
 use borrow.Author.Tests.{lt-ltb, le-ltb, eq-eqb, ne-eqb}
-use lib.Dec.{ltb, eqb}
+use lib.Dec.{eqb}
 use lib.ListN.{getD, set, length, length-set}
 use lib.Seq.{getD-set-same, getD-set-other}
 use Rattle.theory.specs.Problem.{Row}
-use Rattle.theory.specs.Walk.{Best, Course, going, at-bound, out-of-steps, Tally, stepped, leave, exhausted, equalled, improved, goes-on}
+use Rattle.theory.specs.Walk.{Best, Course, at-bound, Tally, stepped, leave, exhausted, equalled, improved}
 use Rattle.search.specs.Arrays.{entries, rowsOf, courseOf, bestOf, tallyOf}
 use Rattle.search.specs.Tries.{reachedAt}
 

@@ -1,21 +1,18 @@
 -- The walk from a place in the search's arrays, branch by branch.
-use Prim.Native.Nat.{ℕ, zero, suc, _+_, _-_, _*_, _≤_, _<_, max}
-use mathlib.Core.Bool.{Bool, true, false, cond}
+use Prim.Native.Nat.{ℕ, suc, _+_, _-_, _≤_, _<_}
+use mathlib.Core.Bool.{true, false}
 use mathlib.Core.List.{List, [], _∷_, _++_}
-use mathlib.Core.Logic.{⊎-elim}
 use mathlib.Core.Path.{_≡_, refl, sym, subst, ap, _∙_}
 use native.Mathlib.Omega.{arith}
-use lib.Dec.{ltb, eqb}
 use lib.ListN.{getD, length, length-append}
 use Rattle.theory.specs.Orders.{factorial}
-use Rattle.theory.specs.Problem.{Problem, Row, place, top, lowest}
-use Rattle.theory.specs.ProblemLaws.{place-is}
+use Rattle.theory.specs.Problem.{Problem, Row, place, top}
 use Rattle.theory.specs.TestLaws.{by-test}
-use Rattle.theory.specs.Walk.{Tally, Course, going, at-bound, out-of-steps, stepped, leave, exhausted, goes-on, complete, judge, step, siblings, walk}
-use Rattle.theory.specs.WalkBranchLaws.{judge-complete, judge-left, judge-deeper, step-spent, step-taken, siblings-none, siblings-on, siblings-stop, walk-siblings}
+use Rattle.theory.specs.Walk.{Tally, going, stepped, leave, exhausted, goes-on, complete, judge, step, siblings, walk}
+use Rattle.theory.specs.WalkBranchLaws.{judge-complete, judge-left, judge-deeper, step-spent, step-taken, siblings-none, siblings-on, siblings-stop}
 use Rattle.theory.specs.WalkLaws.{walk-mark, walk-counts}
 use Rattle.search.specs.Arrays.{entries, rowsOf}
-use Rattle.search.specs.ArraysLaws.{entries-none, entries-first, entries-append, entries-last, entries-same, entries-length, rows-more}
+use Rattle.search.specs.ArraysLaws.{entries-none, entries-first, entries-last, entries-length}
 use Rattle.search.specs.Tries.{reachedAt, triedFrom, goneInto}
 
 -- a complete order is reached at the top of its rows

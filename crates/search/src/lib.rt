@@ -237,10 +237,11 @@ fn complete(
         (tallyOf K (now (tally .entry)) (now (plan .entry)) (now (along .entry)))) ⌝ }
 {
     tally[REACHED] = tally[REACHED] + 1;
-    if tally[MARK] <= end as u64 {
+    let e = end as u64;
+    if tally[MARK] <= e {
         return;
     }
-    tally[MARK] = end as u64;
+    tally[MARK] = e;
     tally[FOUND] = 1;
     *plan = *low;
     *along = *order;
@@ -358,7 +359,8 @@ fn sibling(
         complete(end, bound, low, order, tally, plan, along);
         return;
     }
-    if tally[MARK] <= end as u64 {
+    let mark = tally[MARK];
+    if mark <= end as u64 {
         tally[RULED] = tally[RULED] + factorial(left as u64);
         sibling(
             table,

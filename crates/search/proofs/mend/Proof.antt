@@ -1,10 +1,9 @@
 -- `mend` meets its contract: each turn mends the demand at place `p`, and leaves all others.
-use Prim.Native.Nat.{ℕ, _+_, _-_, _≤_, _<_}
-use mathlib.Core.Path.{_≡_, sym, subst, _∙_}
+use Prim.Native.Nat.{ℕ, _-_, _≤_, _<_}
+use mathlib.Core.Path.{_≡_, subst}
 use native.Mathlib.Omega.{arith}
-use borrow.Author.Needs.{needs}
 use lib.ListN.{getD}
-use Rattle.search.specs.Kept.{Mendable, Mended}
+use Rattle.search.specs.Kept.{Mended}
 use Rattle.search.specs.KeptLaws.{mended-none, mended-mendable, mended-next}
 use Rattle.search.proofs.mend.Statement.{statement}
 use Rattle.search.proofs.mend.Tie as tie

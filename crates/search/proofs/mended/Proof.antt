@@ -1,10 +1,8 @@
 -- `mended` meets its contract: apart from the demand just put down the start stays, else the scan finds the next one.
 use Prim.Native.Nat.{ℕ, _+_, _≤_, _<_}
-use mathlib.Core.Path.{_≡_, sym, _∙_}
 use native.Mathlib.Omega.{arith}
 use borrow.Author.Tests.{not-true, not-false}
 use lib.ListN.{getD}
-use Rattle.search.specs.Kept.{Mendable}
 use Rattle.search.specs.KeptLaws.{kept-bounded, passed-bounded, rows-top-of, stays-unjoined, stays-after, stays-before, mended-moves}
 use borrow.Author.Needs.{needs}
 use Rattle.search.proofs.mended.Statement.{statement}

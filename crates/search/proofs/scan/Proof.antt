@@ -6,7 +6,7 @@ use mathlib.Core.Bool.{Bool}
 use mathlib.Core.Path.{_≡_, sym, subst, _∙_}
 use native.Mathlib.Omega.{arith}
 use lib.ListN.{getD}
-use Rattle.search.specs.Scan.{lookPast, FirstClear, Unpassed}
+use Rattle.search.specs.Scan.{lookPast, Unpassed}
 use Rattle.search.specs.ScanLaws.{look-rises, look-held, look-unpassed, look-found}
 use Rattle.search.proofs.scan.Statement.{statement}
 use Rattle.search.proofs.scan.Tie as tie

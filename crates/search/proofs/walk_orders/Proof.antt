@@ -1,14 +1,14 @@
 -- `walk_orders` meets its contract: the walk is tried from its start, and its answer tells the tally that the walk ends with.
-use Prim.Native.Nat.{ℕ, _+_, _≤_, _<_}
+use Prim.Native.Nat.{ℕ, _+_}
 use mathlib.Core.List.{[]}
-use mathlib.Core.Path.{_≡_, sym, ap, _∙_}
+use mathlib.Core.Path.{_≡_, ap, _∙_}
 use native.Mathlib.Omega.{arith}
 use lib.ListN.{getD, length, replicate}
 use Rattle.theory.specs.Orders.{listing}
 use Rattle.theory.specs.Search.{fresh}
 use Rattle.theory.specs.Walk.{Tally, walk}
-use Rattle.search.specs.Arrays.{problemOf, courseOf, bestOf, tallyOf}
-use Rattle.search.specs.Told.{Told, isSpent, isMet}
+use Rattle.search.specs.Arrays.{problemOf, tallyOf}
+use Rattle.search.specs.Told.{isSpent, isMet}
 use Rattle.search.specs.StartLaws.{ready-first, top-first, counting-first, tried-first, spent-above, found-above, ended-starts, ended-order, ended-steps, ended-mark}
 use borrow.Author.Needs.{needs}
 use Rattle.search.proofs.walk_orders.Statement.{statement}
