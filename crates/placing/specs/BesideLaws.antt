@@ -1,18 +1,17 @@
 -- A demand to be placed sees the same free starts beside the blocks as beside the rows that they stand for.
 use Prim.Native.Nat.{ℕ, zero, suc, _+_, _-_, _≤_, _<_}
-use mathlib.Core.Bool.{Bool, true, false, cond, _&&_}
-use mathlib.Core.List.{List, [], _∷_}
-use mathlib.Core.Path.{_≡_, refl, sym, ap, ap₂, _∙_}
+use mathlib.Core.Bool.{Bool, cond, _&&_}
+use mathlib.Core.List.{List}
+use mathlib.Core.Path.{_≡_, sym, ap, ap₂, _∙_}
 use native.Mathlib.Omega.{arith}
-use lib.Dec.{leb, ltb}
+use lib.Dec.{leb}
 use lib.ListN.{length, getD}
 use borrow.Author.Tests.{leb-true, leb-false, lt-ltb, le-ltb}
 use Rattle.theory.specs.Problem.{Problem, Row, endOf, apart, fits, lowest}
 use Rattle.theory.specs.TestLaws.{by-test}
 use Rattle.theory.specs.ApartLaws.{unjoined-apart, before-apart, after-apart, clash-from}
 use Rattle.theory.specs.ProblemLaws.{end-is, fits-nil, fits-cons, lowest-fits, lowest-least}
-use Rattle.request.specs.View.{View, demandAt}
-use Rattle.request.specs.Sound.{SoundRequest}
+use Rattle.request.specs.View.{View}
 use Rattle.placing.specs.Placing.{problemOf}
 use Rattle.placing.specs.Meeting.{MeetingRow}
 use Rattle.placing.specs.Near.{nearProblem, blockRows, Blocks, spotWithin}

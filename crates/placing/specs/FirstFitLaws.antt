@@ -1,10 +1,9 @@
 -- The ways that first fit can go: what it replies, and what the starts are afterwards.
 use Prim.Native.Nat.{ℕ, _≤_, _<_}
 use mathlib.Core.Bool.{Bool, cond}
-use mathlib.Core.List.{List, [], _++_, map}
+use mathlib.Core.List.{List, _++_, map}
 use mathlib.Core.Path.{_≡_, refl, sym, ap, _∙_}
 use native.Mathlib.Omega.{arith}
-use lib.Dec.{leb}
 use lib.ListN.{length, getD, drop, length-map}
 use lib.Seq.{ext-getD}
 use borrow.Author.Tests.{le-leb, lt-leb}

@@ -22,3 +22,7 @@ pub mod BesideLaws
 pub mod PlacementLaws
 pub mod CopyLaws
 pub mod FirstFitLaws
+pub mod LowestFree
+pub mod LowestFreeLaws
+pub mod PromiseLaws
+pub mod PlacingExamples

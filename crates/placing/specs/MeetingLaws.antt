@@ -1,6 +1,6 @@
 -- Routes: what a demand's array says of its route, and when two routes share a link.
 use Prim.Native.Nat.{ℕ, zero, suc, _+_, _≤_, _<_}
-use mathlib.Core.Bool.{Bool, true, false, _||_, or-assoc, or-false, or-true, or-comm}
+use mathlib.Core.Bool.{Bool, true, false, _||_, or-assoc, or-false, or-true}
 use mathlib.Core.List.{List, [], _∷_, _++_, map}
 use mathlib.Core.Logic.{_⊎_, ⊎-elim}
 use mathlib.Core.Path.{_≡_, refl, sym, ap, _∙_}
@@ -230,8 +230,3 @@ table-entry v i j none hi hj =
 -- two results of the call for the table are equal
 pub one-table : (v : View) (a b : List (List Bool)) → a ≡ meetingTable v → b ≡ meetingTable v → a ≡ b
 one-table v a b ha hb = ha ∙ sym hb
-
--- two results of the call for two demands are equal
-pub one-share : (d other : Demand) (a b : Bool) → a ≡ shareLink (viewDemand d .route) (viewDemand other .route) →
-    b ≡ shareLink (viewDemand d .route) (viewDemand other .route) → a ≡ b
-one-share d other a b ha hb = ha ∙ sym hb

@@ -1,20 +1,19 @@
 -- A look at a start beside blocks, and what the scan finds.
-use Prim.Native.Nat.{ℕ, suc, _+_, _-_, _≤_, _<_, max}
-use mathlib.Core.Bool.{Bool, true, false, cond}
-use mathlib.Core.List.{List, [], _∷_}
-use mathlib.Core.Path.{_≡_, refl, sym, ap, _∙_}
+use Prim.Native.Nat.{ℕ, _+_, _-_, _≤_, _<_, max}
+use mathlib.Core.Bool.{Bool, cond}
+use mathlib.Core.List.{List, _∷_}
+use mathlib.Core.Path.{_≡_, sym, ap, _∙_}
 use native.Mathlib.Omega.{arith}
 use native.Mathlib.Numerals.{add-one}
-use lib.Dec.{leb, ltb}
+use lib.Dec.{ltb}
 use lib.ListN.{getD}
 use borrow.Author.Tests.{ltb-true, ltb-false, lt-ltb, le-ltb, le-leb, lt-leb}
-use Rattle.theory.specs.Problem.{Problem, Row, endOf, apart, fits, lowest}
+use Rattle.theory.specs.Problem.{Problem, Row, endOf, fits, lowest}
 use Rattle.theory.specs.TestLaws.{by-test}
 use Rattle.theory.specs.ApartLaws.{unjoined-apart, before-apart, after-apart, clash-from}
 use Rattle.theory.specs.ProblemLaws.{end-is}
 use Rattle.theory.specs.Scan.{nextStart, rowsAhead}
 use Rattle.theory.specs.ScanLaws.{next-nil, next-apart, next-clash, next-from, next-fits, next-same, next-lowest, scan-found, ahead-falls}
-use Rattle.placing.specs.declared.scan.Spot.{Spot}
 use Rattle.placing.specs.declared.scan.Spot.the-variants.{At, Nowhere}
 use Rattle.placing.specs.Near.{nearProblem, blockRows, Blocks, spotWithin}
 

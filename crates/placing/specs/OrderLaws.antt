@@ -1,9 +1,9 @@
 -- The test of an order, step by step, and what an order that passes is.
 use Prim.Native.Nat.{ℕ, zero, suc, _+_, _≤_, _<_}
-use mathlib.Core.Bool.{Bool, true, false, cond, _||_, or-true}
+use mathlib.Core.Bool.{Bool, true, false, cond, or-true}
 use mathlib.Core.List.{List, [], _∷_, _++_, List·Memᴰ, List·Memᴰ·head, List·Memᴰ·tail, List·Memᴰ·cases-cons, List·Memᴰ·not-nil}
 use mathlib.Core.Logic.{⊎-elim}
-use mathlib.Core.Path.{_≡_, refl, sym, ap, _∙_, subst}
+use mathlib.Core.Path.{_≡_, refl, sym, ap, _∙_}
 use native.Mathlib.Omega.{arith}
 use native.Mathlib.Numerals.{add-one}
 use lib.Dec.{leb, eqb}
@@ -18,7 +18,6 @@ use Rattle.theory.specs.ArrangeLaws.{no-repeats-with, arrange-from}
 use Rattle.theory.specs.Earlier.{NoRepeats, Chained}
 use Rattle.theory.specs.Orders.{listing}
 use Rattle.theory.specs.ListingLaws.{listing-mem, listing-length}
-use Rattle.request.specs.declared.Checked.{Checked}
 use Rattle.request.specs.declared.Checked.the-variants as checked
 use Rattle.request.specs.Check.{then, has}
 use Rattle.request.specs.CheckLaws.{then-sound, then-refused, first-sound, next-sound}

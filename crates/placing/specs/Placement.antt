@@ -4,7 +4,7 @@ use mathlib.Core.Bool.{Bool, false, cond}
 use mathlib.Core.List.{List, [], _∷_, _++_, map}
 use mathlib.Core.Path.{_≡_}
 use lib.ListN.{length, getD, take, drop}
-use Rattle.theory.specs.Problem.{Problem, Row, endOf, lowest, fill, top, startIn, Fitted, placed, firstFit}
+use Rattle.theory.specs.Problem.{Row, endOf, lowest, fill, top, startIn, Fitted, placed, firstFit}
 use Rattle.theory.specs.Orders.{listing}
 use Rattle.request.specs.declared.Request.{Request}
 use Rattle.request.specs.View.{View, view}

@@ -1,7 +1,7 @@
 -- First fit as it goes on: how it starts, what one demand more does, and how it ends.
 use Prim.Native.Nat.{ℕ, zero, suc, _+_, _-_, _≤_, _<_, max}
-use mathlib.Core.Bool.{Bool, true, false, cond}
-use mathlib.Core.List.{List, [], _∷_, _++_}
+use mathlib.Core.Bool.{Bool, cond}
+use mathlib.Core.List.{List, [], _∷_}
 use mathlib.Core.Path.{_≡_, refl, sym, ap, ap₂, subst, _∙_}
 use native.Mathlib.Omega.{arith}
 use native.Mathlib.Numerals.{add-one}
@@ -10,16 +10,13 @@ use lib.ListN.{length, getD, set, take, drop, replicate, length-set, length-repl
 use lib.Seq.{take-suc, drop-cons, getD-set-same, getD-set-other}
 use borrow.Author.Tests.{leb-true, leb-false, eqb-true, eqb-false}
 use Rattle.refusal.specs.declared.Refusal.the-variants.{NoStart}
-use Rattle.theory.specs.Problem.{Problem, Row, endOf, lowest, place, fill, top, startIn, Fitted, placed, refused, firstFit}
+use Rattle.theory.specs.Problem.{Problem, Row, endOf, lowest, place, fill, startIn, placed, refused, firstFit}
 use Rattle.theory.specs.ProblemLaws.{end-is, top-nil, top-place, place-is, fill-nil, fill-cons, fill-append, start-here, start-other}
 use Rattle.theory.specs.FirstFitLaws.{firstFit-nil, firstFit-on, firstFit-refuses}
 use Rattle.theory.specs.TestLaws.{by-test}
 use Rattle.request.specs.declared.Request.{Request}
 use Rattle.request.specs.View.{View, view, viewDemand, demandAt}
-use Rattle.request.specs.Sound.{SoundRequest, SoundDemand}
-use Rattle.placing.specs.declared.scan.Spot.{Spot}
 use Rattle.placing.specs.declared.scan.Spot.the-variants.{At, Nowhere}
-use Rattle.placing.specs.declared.PlacedReply.{PlacedReply}
 use Rattle.placing.specs.declared.PlacedReply.the-variants as placed-reply
 use Rattle.placing.specs.Placing.{problemOf}
 use Rattle.placing.specs.Meeting.{noEntry}

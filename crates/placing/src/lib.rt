@@ -23,8 +23,6 @@ mod order;
 mod route;
 mod scan;
 
-pub use route::share_link;
-
 // The bound of a request, or why the request is refused.
 pub enum BoundReply {
     Bound(u32),

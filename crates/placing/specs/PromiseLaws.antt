@@ -1,0 +1,252 @@
+-- The promises of the two calls, over requests: what a bound, a plan and a refusal with 13 mean.
+use Prim.Native.Nat.{ℕ, _+_, _-_, _≤_, _<_}
+use mathlib.Core.Bool.{Bool, cond}
+use mathlib.Core.List.{List, [], _∷_, _++_, map, List·Memᴰ}
+use mathlib.Core.Path.{_≡_, refl, sym, ap, subst, _∙_}
+use native.Mathlib.Omega.{arith}
+use lib.Dec.{leb}
+use lib.ListN.{length, getD, drop, length-append, length-map, length-drop, List·getD-append}
+use lib.Seq.{getD-append-add, getD-drop}
+use borrow.Author.Tests.{leb-true}
+use Rattle.refusal.specs.declared.Refusal.{Refusal}
+use Rattle.refusal.specs.declared.Refusal.the-variants.{NoStart, BufferShort}
+use Rattle.theory.specs.Problem.{Problem, Row, fits, lowest, fill, top, startIn, Fitted, placed, refused}
+use Rattle.theory.specs.ProblemLaws.{end-is, top-nil}
+use Rattle.theory.specs.TestLaws.{by-test, not-true-false}
+use Rattle.theory.specs.FillLaws.{fill-allowed, fill-planEnd}
+use Rattle.theory.specs.FirstFitLaws.{placed-fill, placed-top, none-fits, refused-at}
+use Rattle.theory.specs.AlikeLaws.{planEnd-alike, allowed-alike}
+use Rattle.theory.specs.Arrange.{Arrange}
+use Rattle.theory.specs.ArrangeLaws.{arrange-mem, arrange-no-repeats}
+use Rattle.theory.specs.Earlier.{NoRepeats}
+use Rattle.theory.specs.Orders.{listing}
+use Rattle.theory.specs.ListingLaws.{listing-below, listing-length, listing-no-repeats}
+use Rattle.request.specs.declared.Request.{Request}
+use Rattle.request.specs.declared.Checked.{Checked}
+use Rattle.request.specs.declared.Checked.the-variants as checked
+use Rattle.request.specs.View.{View, view}
+use Rattle.request.specs.Check.{then, check}
+use Rattle.request.specs.CheckLaws.{first-sound, next-sound}
+use Rattle.request.specs.Whole.{Whole}
+use Rattle.request.specs.SoundLaws.{check-sound, whole-counted}
+use Rattle.request.specs.LimitsLaws.{checked-limits}
+use Rattle.placing.specs.declared.BoundReply.the-variants as bound-reply
+use Rattle.placing.specs.declared.PlacedReply.{PlacedReply}
+use Rattle.placing.specs.declared.PlacedReply.the-variants as placed-reply
+use Rattle.placing.specs.Placing.{problemOf, boundOf}
+use Rattle.placing.specs.Plan.{startAt, AllowedPlan, endOfPlan}
+use Rattle.placing.specs.PlanLaws.{ends-to-slots}
+use Rattle.placing.specs.PlanEndLaws.{plan-end-is}
+use Rattle.placing.specs.BoundLaws.{plan-above-bound}
+use Rattle.placing.specs.Reply.{boundAfter, boundReply}
+use Rattle.placing.specs.MeetingLaws.{joined-swap, listing-at}
+use Rattle.placing.specs.FirstFit.{checkOrder, checkRoom, checkFirstFit, fitted, fittedReply, placedAfter, firstFitReply, startsOf, fittedStarts, firstFitStarts}
+use Rattle.placing.specs.OrderLaws.{order-arranges}
+use Rattle.placing.specs.FirstFitLaws.{fitted-writes}
+use Rattle.placing.specs.LowestFree.{PlanGiven, NoStartFree}
+use Rattle.placing.specs.LowestFreeLaws.{front-once, before-clashes, each-lowest}
+
+-- a bound in reply: the request passed its test, and this is its bound
+bound-given : (c : Checked) (b found : ℕ) → boundAfter c (bound-reply.Bound found) ≡ bound-reply.Bound b → (c ≡ checked.Sound) × (found ≡ b)
+unfolding boundAfter
+bound-given checked.Sound b found e = (refl, cc)
+bound-given (checked.Refused why) b found e = absurd (let z : _≡_ {A = ℕ} 0 1 = cc in omega arith)
+
+-- no allowed plan ends below the bound that the call gives
+pub bound-promise : (q : Request) → Whole q → (b : ℕ) → boundReply (view q) ≡ bound-reply.Bound b →
+    (starts : List ℕ) → AllowedPlan (view q) starts → b ≤ endOfPlan (view q) starts
+unfolding boundReply
+bound-promise q whole b e starts allowed =
+    let (passes, same) = bound-given (check (view q)) b (boundOf (view q)) e in
+    let limits = checked-limits q whole passes in
+    subst (λ (n : ℕ). n ≤ endOfPlan (view q) starts) same
+    (plan-above-bound (view q) (check-sound (view q) (whole-counted q whole) passes) (limits .demands-there) (limits .routes-there) starts allowed)
+
+-- a plan's end in reply: the tests passed, and it is the reply to the fitting
+end-given : (c : Checked) (reply : PlacedReply) (end : ℕ) → placedAfter c reply ≡ placed-reply.Placed end →
+    (c ≡ checked.Sound) × (reply ≡ placed-reply.Placed end)
+unfolding placedAfter
+end-given checked.Sound reply end e = (refl, e)
+end-given (checked.Refused why) reply end e = absurd (let z : _≡_ {A = ℕ} 0 1 = cc in omega arith)
+
+-- a refusal in reply to a fitting is 13 at the refused demand
+refusal-is : (P : Problem) (out : Fitted) (why : Refusal) → fittedReply P out ≡ placed-reply.Refused why →
+    (i : ℕ) × (out ≡ refused i) × (why ≡ NoStart i)
+unfolding fittedReply
+refusal-is P (placed rows) why e = absurd (let z : _≡_ {A = ℕ} 0 1 = cc in omega arith)
+refusal-is P (refused i) why e = (i, refl, cc)
+
+-- a buffer that passes has room
+room-there : (K : ℕ) (starts : List ℕ) → checkRoom K starts ≡ checked.Sound → K ≤ length starts
+unfolding checkRoom
+room-there K starts passes =
+    by-test (leb K (length starts))
+    (leb-true K (length starts))
+    (λ f.
+    let refused : checked.Refused (BufferShort K) ≡ checked.Sound
+    = sym (ap (λ (b : Bool). cond b checked.Sound (checked.Refused (BufferShort K))) f) ∙ passes in
+    absurd (let z : _≡_ {A = ℕ} 0 1 = cc in omega arith))
+
+-- an index behind the front of a list
+apart-by : (front : List ℕ) (K k : ℕ) → length front ≡ K → K ≤ k → k ≡ length front + (k - K)
+apart-by front K k long h = omega arith
+
+module _ (v : View) (order starts : List ℕ) (tested : checkFirstFit v order starts ≡ checked.Sound) where
+  -- what the tests leave to know
+  request-sound : check v ≡ checked.Sound
+  unfolding checkFirstFit
+  request-sound = first-sound (check v) (then (checkOrder (v .demandCount) order) (checkRoom (v .demandCount) starts)) tested
+
+  order-sound : checkOrder (v .demandCount) order ≡ checked.Sound
+  unfolding checkFirstFit
+  order-sound =
+      first-sound (checkOrder (v .demandCount) order) (checkRoom (v .demandCount) starts)
+      (next-sound (check v) (then (checkOrder (v .demandCount) order) (checkRoom (v .demandCount) starts)) tested)
+
+  room-enough : v .demandCount ≤ length starts
+  unfolding checkFirstFit
+  room-enough =
+      room-there (v .demandCount) starts
+      (next-sound (checkOrder (v .demandCount) order) (checkRoom (v .demandCount) starts)
+      (next-sound (check v) (then (checkOrder (v .demandCount) order) (checkRoom (v .demandCount) starts)) tested))
+
+  -- the order lists each listing position once
+  arranged : Arrange order (listing (v .demandCount))
+  arranged = order-arranges (v .demandCount) order order-sound
+
+  order-once : NoRepeats order
+  order-once = arrange-no-repeats order (listing (v .demandCount)) arranged (listing-no-repeats (v .demandCount))
+
+  -- first fit refused at a demand: no start is free for it
+  refused-means : (i : ℕ) → fitted v order ≡ refused i → NoStartFree v order i
+  unfolding fitted problemOf
+  refused-means i out =
+      let (before, after, split, fine, above) = refused-at (problemOf v) (v .band .slots) [] order i out in
+      let once : NoRepeats before = front-once before (i ∷ after) (subst NoRepeats split order-once) in
+      let rows : List Row = fill (problemOf v) [] before in
+      record {
+        before = before;
+        after = after;
+        stands = split;
+        plan = startIn rows;
+        each-lowest = each-lowest v (startIn rows) before rows once fine (λ j m. refl);
+        none-free =
+            λ s inside.
+            before-clashes v (startIn rows) before i s once (λ j m. refl)
+            (not-true-false (fits (problemOf v) rows i s)
+            (λ f. none-fits (problemOf v) (v .band .slots) rows i above s f (omega (arith, end-is (problemOf v) i s))));
+      }
+
+  -- after the tests, a refusal is 13, at a demand for which no start is free
+  pub refusal-promise : (why : Refusal) → fittedReply (problemOf v) (fitted v order) ≡ placed-reply.Refused why →
+      (i : ℕ) × (why ≡ NoStart i) × NoStartFree v order i
+  refusal-promise why e =
+      let (i, out, thirteen) = refusal-is (problemOf v) (fitted v order) why e in
+      (i, thirteen, refused-means i out)
+
+  module _ (rows : List Row) (out : fitted v order ≡ placed rows) where
+    -- the rows are those of first fit along the order
+    rows-are : rows ≡ fill (problemOf v) [] order
+    unfolding fitted
+    rows-are = placed-fill (problemOf v) (v .band .slots) [] order rows out
+
+    -- what is written
+    written : firstFitStarts v order starts ≡ startsOf (v .demandCount) rows starts
+    unfolding fittedStarts
+    written =
+        fitted-writes v order starts tested ∙ ap (λ (o : Fitted). fittedStarts (v .demandCount) o starts) out
+
+    -- the start written for a demand is the one that the rows give it
+    start-is : (j : ℕ) → j < v .demandCount → startAt (firstFitStarts v order starts) j ≡ startIn (fill (problemOf v) [] order) j
+    unfolding startAt startsOf
+    start-is j h =
+        let K : ℕ = v .demandCount in
+        let long : length (map (startIn rows) (listing K)) ≡ K = length-map (listing K) (startIn rows) ∙ listing-length K in
+        ap (λ (l : List ℕ). getD l j 0) written
+        ∙ List·getD-append (map (startIn rows) (listing K)) (drop K starts) 0 j (omega arith)
+        ∙ listing-at (startIn rows) K j 0 h
+        ∙ ap (λ (r : List Row). startIn r j) rows-are
+
+    listed-start : (j : ℕ) → List·Memᴰ j (listing (v .demandCount)) →
+        startIn (fill (problemOf v) [] order) j ≡ startAt (firstFitStarts v order starts) j
+    listed-start j m = sym (start-is j (listing-below (v .demandCount) j m))
+
+    -- the rows end inside the band
+    top-inside : top (problemOf v) (fill (problemOf v) [] order) ≤ v .band .slots
+    unfolding fitted
+    top-inside = placed-top (problemOf v) (v .band .slots) [] order rows (omega (arith, top-nil (problemOf v))) out
+
+    -- nothing behind the first K entries is written
+    behind-is : (k : ℕ) → v .demandCount ≤ k → getD (firstFitStarts v order starts) k 0 ≡ getD starts k 0
+    unfolding startsOf
+    behind-is k h =
+        let K : ℕ = v .demandCount in
+        let front : List ℕ = map (startIn rows) (listing K) in
+        let long : length front ≡ K = length-map (listing K) (startIn rows) ∙ listing-length K in
+        ap (λ (l : List ℕ). getD l k 0) written
+        ∙ ap (λ (n : ℕ). getD (front ++ drop K starts) n 0) (apart-by front K k long h)
+        ∙ getD-append-add front (drop K starts) (k - K) 0
+        ∙ getD-drop K starts (k - K) 0
+        ∙ ap (λ (n : ℕ). getD starts n 0) (omega arith)
+
+    -- the plan given is allowed
+    given-allowed : AllowedPlan v (firstFitStarts v order starts)
+    given-allowed =
+        ends-to-slots v (firstFitStarts v order starts)
+        (allowed-alike (problemOf v) (startIn (fill (problemOf v) [] order)) (startAt (firstFitStarts v order starts)) (v .band .slots) []
+        (listing (v .demandCount))
+        listed-start
+        (fill-allowed (problemOf v) (joined-swap v) (v .band .slots) [] order (listing (v .demandCount)) arranged
+        (listing-no-repeats (v .demandCount)) top-inside))
+
+    -- its end is the top of the rows
+    given-end : length (v .demands) ≡ v .demandCount → endOfPlan v (firstFitStarts v order starts) ≡ top (problemOf v) rows
+    given-end counted =
+        plan-end-is v (firstFitStarts v order starts) counted
+        ∙ sym (planEnd-alike (problemOf v) (startIn (fill (problemOf v) [] order)) (startAt (firstFitStarts v order starts)) []
+        (listing (v .demandCount)) listed-start)
+        ∙ fill-planEnd (problemOf v) [] order (listing (v .demandCount)) arranged (listing-no-repeats (v .demandCount))
+        ∙ ap (top (problemOf v)) (sym rows-are)
+
+    -- as many entries as before
+    given-length : length (firstFitStarts v order starts) ≡ length starts
+    unfolding startsOf
+    given-length =
+        let K : ℕ = v .demandCount in
+        ap length written
+        ∙ length-append (map (startIn rows) (listing K)) (drop K starts)
+        ∙ omega (arith, length-map (listing K) (startIn rows), listing-length K, length-drop K starts, room-enough)
+
+    -- all are placed: the promise
+    plan-given : length (v .demands) ≡ v .demandCount → PlanGiven v order starts (firstFitStarts v order starts) (top (problemOf v) rows)
+    unfolding fitted
+    plan-given counted =
+        record {
+          each-lowest =
+              each-lowest v (startAt (firstFitStarts v order starts)) order rows order-once out
+              (λ j m. start-is j (listing-below (v .demandCount) j (arrange-mem order (listing (v .demandCount)) arranged j m)));
+          allowed = given-allowed;
+          ends = sym (given-end counted);
+          in-band = rw rows-are top-inside;
+          as-long = given-length;
+          behind-kept = behind-is;
+        }
+
+-- an end in reply to a fitting is the top of its rows
+end-is-top : (P : Problem) (out : Fitted) (end : ℕ) → fittedReply P out ≡ placed-reply.Placed end →
+    (rows : List Row) × (out ≡ placed rows) × (top P rows ≡ end)
+unfolding fittedReply
+end-is-top P (placed rows) end e = (rows, refl, cc)
+end-is-top P (refused i) end e = absurd (let z : _≡_ {A = ℕ} 0 1 = cc in omega arith)
+
+-- first fit that replies with an end has given each demand, in the order, its lowest free start; the plan is allowed and has that end
+pub first-fit-promise : (q : Request) → Whole q → (order starts : List ℕ) (end : ℕ) →
+    firstFitReply (view q) order starts ≡ placed-reply.Placed end →
+    PlanGiven (view q) order starts (firstFitStarts (view q) order starts) end
+unfolding firstFitReply
+first-fit-promise q whole order starts end e =
+    let v : View = view q in
+    let (tested, answer) = end-given (checkFirstFit v order starts) (fittedReply (problemOf v) (fitted v order)) end e in
+    let (rows, out, tops) = end-is-top (problemOf v) (fitted v order) end answer in
+    let limits = checked-limits q whole (request-sound v order starts tested) in
+    subst (PlanGiven v order starts (firstFitStarts v order starts)) tops (plan-given v order starts tested rows out (limits .demands-there))
