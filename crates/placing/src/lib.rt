@@ -23,6 +23,9 @@ mod order;
 mod route;
 mod scan;
 
+// The check of plans asks it of two demands that stand too close.
+pub use route::share_link;
+
 // The bound of a request, or why the request is refused.
 pub enum BoundReply {
     Bound(u32),

@@ -54,6 +54,14 @@ pub fn route_marked(marks: &[bool; 256], demand: Demand) -> bool
     false
 }
 
+// Whether two demands share a link.
+pub fn share_link(demand: Demand, other: Demand) -> bool
+    ensures { λ r. ⌜ r ≡ shareLink (viewDemand demand .route) (viewDemand other .route) ⌝ }
+{
+    let marks = route_marks(other);
+    route_marked(&marks, demand)
+}
+
 // Whether a link stands in a demand's route.
 pub fn on_link(demand: Demand, link: usize) -> bool
     ensures { λ r. ⌜ r ≡ has link (viewDemand demand .route) ⌝ }
