@@ -16,6 +16,7 @@ use Rattle.request.specs.declared.Written.the-variants.{Wrote, Refused as Unwri
 use Rattle.request.specs.View.{DemandView, View, demandAt, noDemand}
 use Rattle.request.specs.Encoding.{twoBytes, field}
 use Rattle.request.specs.Writing.{writeReply, filled}
+use Rattle.request.specs.WritingLaws.{sets-then}
 use Rattle.placing.specs.Plan.{startAt}
 use Rattle.plan.specs.CheckStarts.{checkStarts}
 use Rattle.plan.specs.PlanFile.{rowField, rowFields, encodePlan, planWritten, planOut}
@@ -44,13 +45,6 @@ pub rows-done : (starts : List ℕ) (demands : List DemandView) (k : ℕ) → le
 unfolding rowFields
 rows-done starts demands k h = rw (drop-of-length-le demands h)
 
--- a list stored in two parts
-pub sets-append : (l xs ys : List ℕ) (i : ℕ) → sets l i (xs ++ ys) ≡ sets (sets l i xs) (i + length xs) ys
-sets-append l [] ys i = let e : i ≡ i + 0 = omega arith in ap (λ (n : ℕ). sets l n ys) e
-sets-append l (a ∷ xs) ys i =
-    let e : suc i + length xs ≡ i + suc (length xs) = omega arith in
-    sets-append (set l i a) xs ys (suc i) ∙ ap (λ (n : ℕ). sets (sets (set l i a) (suc i) xs) n ys) e
-
 -- the rows stored from a position on: the one there, then those behind it
 pub store-turn : (out starts : List ℕ) (demands : List DemandView) (k : ℕ) → k < length demands →
     sets out (7 * k) (rowFields starts k (drop k demands)) ≡
@@ -58,9 +52,8 @@ pub store-turn : (out starts : List ℕ) (demands : List DemandView) (k : ℕ) �
 store-turn out starts demands k h =
     let row = rowField (demandAt demands k .ident) (startAt starts k) in
     let rest = rowFields starts (k + 1) (drop (k + 1) demands) in
-    let e : 7 * k + length row ≡ 7 * (k + 1) = omega (arith, row-length (demandAt demands k .ident) (startAt starts k)) in
-    ap (λ (file : List ℕ). sets out (7 * k) file) (rows-turn starts demands k h)
-    ∙ (sets-append out row rest (7 * k) ∙ ap (λ (n : ℕ). sets (sets out (7 * k) row) n rest) e)
+    let next : 7 * (k + 1) ≡ 7 * k + length row = omega (arith, row-length (demandAt demands k .ident) (startAt starts k)) in
+    ap (λ (file : List ℕ). sets out (7 * k) file) (rows-turn starts demands k h) ∙ sym (sets-then out (7 * k) row rest (7 * (k + 1)) next)
 
 -- seven bytes stored one by one are a row
 pub row-stored : (out : List ℕ) (at ident start a b c d : ℕ) → a ≡ ident / 256 → b ≡ ident % 256 → c ≡ start / 256 → d ≡ start % 256 →

@@ -2,9 +2,11 @@
 use refusal::Refusal;
 
 mod check;
+mod read;
 mod write;
 
 pub use check::check_starts;
+pub use read::read_plan;
 pub use write::write_plan;
 
 // Whether a plan is accepted, with its end, or why it is refused.

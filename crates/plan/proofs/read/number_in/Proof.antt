@@ -1,0 +1,45 @@
+-- `plan::read::number_in` meets its contract. Assumes nothing.
+use Prim.Native.Nat.{_+_}
+use native.Mathlib.Omega.{arith}
+use borrow.Author.Needs.{needs}
+use Rattle.request.specs.Reading.{number16}
+use Rattle.plan.proofs.read.number_in.Statement.{statement}
+use Rattle.plan.proofs.read.number_in.Tie as tie
+
+shared-slice-read-wide : tie.Need-shared-slice-read-wide
+shared-slice-read-wide c = search needs
+
+wide-requires : tie.Need-wide-requires
+wide-requires c κs = search needs
+
+mul-result : tie.Need-mul-result
+mul-result c = omega (arith, c .before .shared-slice-known2 .given (c .before .before .before .args .at))
+
+add-wide : tie.Need-add-wide
+add-wide c = search needs
+
+shared-slice-read-wide-2 : tie.Need-shared-slice-read-wide-2
+shared-slice-read-wide-2 c = search needs
+
+wide-requires-2 : tie.Need-wide-requires-2
+wide-requires-2 c κs = search needs
+
+add-result : tie.Need-add-result
+add-result c = omega (arith, c .before .shared-slice-known3 .given (c .before .before .before .before .before .args .at), c .before .shared-slice-known3 .given (c .before .before .before .before .before .args .at + 1))
+
+returns : tie.Need-returns
+unfolding number16
+returns c = omega arith
+
+pub number-in-spec : {M : Type 1} → statement M
+number-in-spec =
+    tie.close
+    (tie.spec
+    shared-slice-read-wide
+    wide-requires
+    mul-result
+    add-wide
+    shared-slice-read-wide-2
+    wide-requires-2
+    add-result
+    returns)
