@@ -28,11 +28,12 @@ must test why = cond test Sound (Refused why)
 unfoldable pub number16 : List ℕ → ℕ → ℕ
 number16 s at = 256 * getD s at 0 + getD s (at + 1) 0
 
--- how many bytes the body of the field at an offset has, and where that field ends
+-- how many bytes the body of the field at an offset has
 unfoldable pub bodyLength : List ℕ → ℕ → ℕ
 unfolding number16
 bodyLength s at = number16 s (at + 1)
 
+-- where that field ends; a header that is cut short ends past the file already
 unfoldable pub fieldEnd : List ℕ → ℕ → ℕ
 unfolding bodyLength
 fieldEnd s at = at + 3 + bodyLength s at
@@ -45,11 +46,12 @@ checkField s at tag least most =
     (then (must (eqb (getD s at 0) tag) (WrongTag at))
     (must (leb least (bodyLength s at) && leb (bodyLength s at) most) (WrongLength at)))
 
--- the first field is the band's: 2 at the file's length where there is none, then 4
+-- the band in the first field
 unfoldable pub bandIn : List ℕ → Band
 unfolding number16 signed16
 bandIn s = record { n0 = signed16 (number16 s 3); slots = number16 s 5; guard = getD s 7 0 }
 
+-- the first field is the band's: 2 at the file's length where there is none, then 4
 unfoldable pub checkBandField : List ℕ → Checked
 unfolding then must checkField bandIn
 checkBandField s =
@@ -57,10 +59,11 @@ checkBandField s =
     (then (checkField s 0 1 5 5)
     (must (allowedBand (bandIn s)) (BandOutside 0)))
 
--- a link's field after so many links: 2 at the file's length where it has ended, then 5: the count, then the ends
+-- the link in the field at an offset
 unfoldable pub linkIn : List ℕ → ℕ → Link
 linkIn s at = record { from = getD s (at + 3) 0; to = getD s (at + 4) 0 }
 
+-- a link's field after so many links: 2 at the file's length where it has ended, then 5: the count, then the ends
 unfoldable pub checkLinkField : List ℕ → ℕ → ℕ → Checked
 unfolding then must checkField linkIn
 checkLinkField s at count =
@@ -69,7 +72,7 @@ checkLinkField s at count =
     (then (must (ltb count 64) (BadLink at))
     (must (not (eqb (linkIn s at .from) (linkIn s at .to))) (BadLink at))))
 
--- a demand's field after demands of these idents: 6, 8, 9, 7
+-- the demand in the field at an offset
 unfoldable pub demandIn : List ℕ → ℕ → DemandView
 unfolding number16 bodyLength
 demandIn s at =
@@ -80,6 +83,7 @@ demandIn s at =
       route = take (bodyLength s at - 4) (drop (at + 7) s);
     }
 
+-- a demand after demands of these idents: 6, 8, 9, 7
 unfoldable pub checkNewDemand : ℕ → List Link → List ℕ → ℕ → DemandView → Checked
 unfolding then must has allowedWidth soundRoute
 checkNewDemand S links earlier at d =
@@ -88,6 +92,7 @@ checkNewDemand S links earlier at d =
     (then (must (allowedWidth S (d .width)) (BadWidth at))
     (must (soundRoute links (d .route)) (BadRoute at))))
 
+-- a demand's field: first what every field is tested for
 unfoldable pub checkDemandField : ℕ → List Link → List ℕ → ℕ → List ℕ → Checked
 unfolding then checkField demandIn checkNewDemand
 checkDemandField S links s at earlier =
@@ -138,7 +143,7 @@ readDemands (suc left) S links s at demands =
     let rest = readDemands left S links s (fieldEnd s at) (demands ++ (demandIn s at ∷ [])) in
     cond (eqb at (length s)) (demandsRead demands) (nextDemands (checkDemandField S links s at (idents demands)) rest)
 
--- band, links and demands make a request
+-- after the demands: band, links and demands make a request
 unfoldable pub withDemands : Band → List Link → DemandsRead → FileReading
 withDemands band links (demandsRefused why) = refused why
 withDemands band links (demandsRead demands) =
@@ -150,12 +155,14 @@ withDemands band links (demandsRead demands) =
       demands = demands;
     })
 
+-- after the links: the demands
 unfoldable pub withLinks : List ℕ → Band → LinksRead → FileReading
 unfolding readDemands withDemands
 withLinks s band (linksRefused why) = refused why
 withLinks s band (linksRead links at) =
     withDemands band links (readDemands 201 (band .slots) links s at [])
 
+-- after the band: the links
 unfoldable pub withBand : List ℕ → Checked → FileReading
 unfolding bandIn readLinks withLinks
 withBand s (Refused why) = refused why

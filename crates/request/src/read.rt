@@ -74,6 +74,7 @@ pub fn read_request(file: &[u8]) -> Reading
     }
 }
 
+// A refusal, beside the empty request.
 fn refused(why: Refusal) -> Reading
     ensures { λ r. ⌜ r ≡ packReading (refused why) ⌝ }
 {
@@ -104,6 +105,7 @@ pub fn empty_request() -> Request
     }
 }
 
+// What fills an array of demands behind the last one.
 fn empty_demand() -> Demand
     ensures { λ r. ⌜ r ≡ emptyDemand ⌝ }
 {
@@ -386,6 +388,7 @@ fn signed(bits: u16) -> i16
     }
 }
 
+// With the highest bit set they are lowered by 65536.
 fn below_zero(bits: u16) -> i16
     requires { ⌜ 32768 ≤ bits ⌝ }
     ensures { λ r. ⌜ r ≡ pos bits -ℤ pos 65536 ⌝ }

@@ -61,6 +61,7 @@ fn file_length(link_count: usize, demands: [Demand; 200], demand_count: usize) -
     bytes
 }
 
+// The band's field, at the front.
 fn write_band(band: Band, out: &mut [u8])
     requires { ⌜ 8 ≤ length (now out) ⌝ }
     ensures { λ r. ⌜ now (out .exit) ≡ sets (now (out .entry)) 0 (bandField band) ⌝ }
@@ -74,6 +75,7 @@ fn write_band(band: Band, out: &mut [u8])
     out[7] = guard;
 }
 
+// The links' fields, behind the band's.
 fn write_links(links: [Link; 64], count: usize, out: &mut [u8])
     requires { ⌜ count ≤ 64 ⌝ }
     requires { ⌜ 8 + 5 * count ≤ length (now out) ⌝ }
@@ -96,6 +98,7 @@ fn write_link(link: Link, at: usize, out: &mut [u8])
     out[at + 4] = link.to;
 }
 
+// The demands' fields, from an offset on.
 fn write_demands(demands: [Demand; 200], count: usize, start: usize, out: &mut [u8])
     requires { ⌜ count ≤ 200 ⌝ }
     requires { ⌜ RoutesFit demands count ⌝ }
@@ -167,6 +170,7 @@ fn bits(number: i16) -> u16
     }
 }
 
+// Below 0 they are the number raised by 65536.
 fn wrapped(number: i16) -> u16
     requires { ⌜ ltZ number (pos 0) ≡ true ⌝ }
     ensures { λ r. ⌜ r ≡ bits16 number ⌝ }
