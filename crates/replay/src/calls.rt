@@ -2,10 +2,13 @@
 mod block;
 mod bound;
 mod check_request;
+mod check_starts;
 mod first_fit;
 mod frequency;
+mod read_plan;
 mod read_request;
 mod search_orders;
+mod write_plan;
 mod write_request;
 
 // Makes the call of this number. False, and nothing printed, where there is no such call or the body is not one of it.
@@ -17,6 +20,9 @@ pub fn make_call(op: u8, body: &[u8]) -> bool {
         0x04 => bound::answer(body),
         0x05 => first_fit::answer(body),
         0x06 => search_orders::answer(body),
+        0x07 => check_starts::answer(body),
+        0x08 => read_plan::answer(body),
+        0x09 => write_plan::answer(body),
         0x0A => frequency::answer(body),
         0x0B => block::answer(body),
         _ => false,

@@ -1,5 +1,6 @@
 // What is printed, piece by piece.
 use libc::STDOUT_FILENO;
+use plan::CheckReply;
 use refusal::Refusal;
 use request::Written;
 ghost use Prim.Native.Nat.{_<_};
@@ -50,6 +51,17 @@ pub fn written(written: Written) {
             number(count as u64);
         }
         Written::Refused(why) => refusal(why),
+    }
+}
+
+// A word and the end of a plan that is accepted, or why it is not.
+pub fn checked(word: &[u8], reply: CheckReply) {
+    match reply {
+        CheckReply::Accepted(end) => {
+            words(word);
+            number(end as u64);
+        }
+        CheckReply::Refused(why) => refusal(why),
     }
 }
 
