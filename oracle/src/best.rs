@@ -1,11 +1,10 @@
-//! The search's end held against brute force over all plans.
+//! What is said of searches on small bands, held against brute force over all plans.
 
-use crate::brute::{best_end, plans_to_try};
+use crate::brute::{best_end, is_plan, plans_to_try};
 use crate::frames::Call;
 use crate::request::Request;
 use crate::rules::Rules;
 use crate::sound::test_request;
-use crate::walk::{search, Found, Outcome};
 
 #[derive(Default)]
 struct Tally {
@@ -16,13 +15,14 @@ struct Tally {
     wrong: usize,
 }
 
-/// Holds every search on a small band against brute force and prints the counts; false when one is wrong or none is held.
-pub fn check(calls: &[Call]) -> bool {
+/// Holds the line of every search on a small band against brute force and prints the counts; false when one is wrong or
+/// none is held. Refusals are passed over.
+pub fn check(calls: &[Call], lines: &[String]) -> bool {
     let mut tally = Tally::default();
-    for (index, call) in calls.iter().enumerate() {
-        let Call::Search { limit, request, .. } = call else { continue };
-        if small(request) {
-            hold(index + 1, request, *limit, &mut tally);
+    for (index, (call, line)) in calls.iter().zip(lines).enumerate() {
+        let Call::Search { request, .. } = call else { continue };
+        if small(request) && !line.starts_with("refused ") {
+            hold(index + 1, request, line, &mut tally);
         } else {
             tally.passed_over += 1;
         }
@@ -31,35 +31,44 @@ pub fn check(calls: &[Call]) -> bool {
         "best ends: {} finished, {} nothing fits, {} unfinished held against brute force, {} passed over, {} wrong",
         tally.finished, tally.nothing_fits, tally.unfinished, tally.passed_over, tally.wrong
     );
-    tally.wrong == 0 && tally.finished > 0 && tally.nothing_fits > 0
+    calls.len() == lines.len() && tally.wrong == 0 && tally.finished > 0 && tally.nothing_fits > 0
 }
 
 fn small(request: &Request) -> bool {
     test_request(request, &Rules::right()).is_ok() && request.demand_count <= 20 && plans_to_try(request).is_some()
 }
 
-fn hold(frame: usize, request: &Request, limit: u64, tally: &mut Tally) {
-    let mut buffer = [[0; 20]; 2];
-    let [starts, order] = &mut buffer;
-    let Ok(found) = search(request, limit, starts, order, &Rules::right()) else { return };
-    match found.outcome {
-        Outcome::Finished => tally.finished += 1,
-        Outcome::NoFit => tally.nothing_fits += 1,
+fn hold(frame: usize, request: &Request, line: &str, tally: &mut Tally) {
+    match line.split(' ').next() {
+        Some("finished") => tally.finished += 1,
+        Some("nofit") => tally.nothing_fits += 1,
         _ => tally.unfinished += 1,
     }
     let best = best_end(request);
-    if !agrees(&found, best) {
+    if agrees(request, line, best) != Some(true) {
         tally.wrong += 1;
-        println!("frame {frame}: {found:?}, the best of all plans is {best:?}");
+        println!("frame {frame}: {line}; the best of all plans is {best:?}");
     }
 }
 
 /// Finished means the best of all plans; nothing fits means there is none; a plan so far is no better than the best.
-fn agrees(found: &Found, best: Option<i64>) -> bool {
-    match found.outcome {
-        Outcome::Finished => best == Some(found.end),
-        Outcome::NoFit => best.is_none(),
-        Outcome::Unfinished => best.is_some_and(|best| best <= found.end),
-        Outcome::UnfinishedEmpty => found.end == 0,
+/// A plan that is shown is one, and has its end. `None` for a line that cannot be read.
+fn agrees(request: &Request, line: &str, best: Option<i64>) -> Option<bool> {
+    let words: Vec<&str> = line.split(' ').collect();
+    let end: i64 = words.get(2)?.parse().ok()?;
+    let shown = || is_plan(request, &entries(words.get(11)?)?, end);
+    match words[0] {
+        "finished" => Some(best == Some(end) && shown()?),
+        "nofit" => Some(best.is_none() && end == 0),
+        "unfinished" => Some(best? <= end && shown()?),
+        "unfinished-empty" => Some(end == 0),
+        _ => None,
     }
+}
+
+fn entries(word: &str) -> Option<Vec<i64>> {
+    if word == "-" {
+        return Some(vec![]);
+    }
+    word.split(',').map(|entry| entry.parse().ok()).collect()
 }

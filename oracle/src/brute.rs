@@ -24,6 +24,13 @@ pub fn best_end(request: &Request) -> Option<i64> {
     best
 }
 
+/// Whether these starts, one for each demand at the front, are an allowed plan of this end.
+pub fn is_plan(request: &Request, starts: &[i64], end: i64) -> Option<bool> {
+    let starts = starts.get(..request.demands.len())?;
+    let apart = (0..starts.len()).all(|position| !clashes_with_earlier(request, starts, position));
+    Some(apart && end_of(request, starts) == end && end <= request.band.slots)
+}
+
 fn try_starts(request: &Request, starts: &mut Vec<i64>, best: &mut Option<i64>) {
     let position = starts.len();
     if position == request.demands.len() {

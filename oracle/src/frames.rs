@@ -143,10 +143,12 @@ impl<'a> Cursor<'a> {
 /// The frame that asks for a call.
 pub fn frame_of(call: &Call) -> Vec<u8> {
     let (op, body) = op_and_body(call);
-    let mut frame = vec![op];
-    frame.extend_from_slice(&(body.len() as u32).to_be_bytes());
-    frame.extend_from_slice(&body);
-    frame
+    framed(op, &body)
+}
+
+/// A body behind its head.
+pub fn framed(op: u8, body: &[u8]) -> Vec<u8> {
+    [&[op], &(body.len() as u32).to_be_bytes()[..], body].concat()
 }
 
 fn op_and_body(call: &Call) -> (u8, Vec<u8>) {

@@ -5,6 +5,7 @@ pub mod best;
 pub mod bound;
 pub mod brute;
 pub mod census;
+pub mod compare;
 pub mod fields;
 pub mod frames;
 pub mod frequency;

@@ -2,14 +2,18 @@
 
 use oracle::frames::{call_of, frame_of, next_frame, Call};
 use oracle::rules::Rules;
-use oracle::{answers, best, census, laws, lightplan, make, requests, variants};
+use oracle::{answers, best, census, compare, laws, lightplan, make, requests, variants};
+use std::fs;
 use std::io::{self, Read, Write};
 use std::path::Path;
 use std::process::ExitCode;
 
 const USAGE: &str =
-    "usage: oracle answer | check-best | check-laws | variants | census | lightplan | requests FOLDER  < input
-       oracle make stored | make random SEED COUNT | make small SEED COUNT | make malformed [NUMBER]";
+    "usage: oracle answer | check-best [LINES] | check-laws | compare LINES | variants | census  < frames
+       oracle lightplan  < request
+       oracle requests FOLDER  < frames
+       oracle make stored | make longest | make random SEED COUNT | make small SEED COUNT
+       oracle streams FOLDER SEED COUNT";
 
 fn main() -> ExitCode {
     let words: Vec<String> = std::env::args().skip(1).collect();
@@ -27,8 +31,10 @@ fn main() -> ExitCode {
 fn run(words: &[&str]) -> Result<bool, String> {
     match words {
         ["answer"] => print(&joined_lines(&answers::answer_stream(&input()?, &Rules::right()))),
-        ["check-best"] => Ok(best::check(&input_calls()?)),
+        ["check-best"] => check_best(None),
+        ["check-best", lines] => check_best(Some(Path::new(lines))),
         ["check-laws"] => Ok(laws::check(&input_calls()?)),
+        ["compare", lines] => Ok(compare::compare(&input()?, &text_of(Path::new(lines))?)),
         ["variants"] => Ok(variants::show(&input_calls()?)),
         ["census"] => print(&joined_lines(&census::census(&input_calls()?))),
         ["lightplan"] => print(lightplan::lightplan(&input()?, &Rules::right()).as_bytes()),
@@ -36,8 +42,8 @@ fn run(words: &[&str]) -> Result<bool, String> {
         ["make", "stored"] => print(&frames(&make::stored())),
         ["make", "random", seed, count] => print(&frames(&make::random(number(seed)?, number(count)? as usize))),
         ["make", "small", seed, count] => print(&frames(&make::small(number(seed)?, number(count)? as usize))),
-        ["make", "malformed"] => print(format!("{}\n", make::malformed().len()).as_bytes()),
-        ["make", "malformed", which] => print(&malformed(number(which)?)?),
+        ["make", "longest"] => print(&frames(&make::longest())),
+        ["streams", folder, seed, count] => write_streams(Path::new(folder), number(seed)?, number(count)? as usize),
         _ => Err(USAGE.to_string()),
     }
 }
@@ -82,6 +88,29 @@ fn joined_lines(lines: &[String]) -> Vec<u8> {
     lines.iter().flat_map(|line| format!("{line}\n").into_bytes()).collect()
 }
 
-fn malformed(which: u64) -> Result<Vec<u8>, String> {
-    make::malformed().get(which as usize).cloned().ok_or_else(|| format!("no stream {which}"))
+fn text_of(path: &Path) -> Result<String, String> {
+    let bytes = fs::read(path).map_err(|error| format!("{}: {error}", path.display()))?;
+    Ok(String::from_utf8_lossy(&bytes).into_owned())
+}
+
+/// Holds the lines of a file against brute force, or where none is named this program's own.
+fn check_best(lines: Option<&Path>) -> Result<bool, String> {
+    let calls = input_calls()?;
+    let lines: Vec<String> = match lines {
+        Some(path) => text_of(path)?.lines().map(str::to_string).collect(),
+        None => calls.iter().map(|call| answers::answer(call, &Rules::right())).collect(),
+    };
+    Ok(best::check(&calls, &lines))
+}
+
+/// Writes `N.frames` for each stream beside `N.lines`, what is to be printed for it, and says how many.
+fn write_streams(folder: &Path, seed: u64, count: usize) -> Result<bool, String> {
+    let streams = [make::malformed(), make::damaged(seed, count)].concat();
+    for (index, stream) in streams.iter().enumerate() {
+        let name = folder.join((index + 1).to_string());
+        let lines = joined_lines(&answers::answer_stream(stream, &Rules::right()));
+        let written = fs::write(name.with_extension("frames"), stream);
+        written.and_then(|()| fs::write(name.with_extension("lines"), lines)).map_err(|error| error.to_string())?;
+    }
+    print(format!("{}\n", streams.len()).as_bytes())
 }

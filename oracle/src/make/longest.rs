@@ -1,0 +1,36 @@
+//! Calls whose frames are as long as they get, and buffers as long as may be lent.
+
+use super::cases::Cases;
+use super::shapes::{largest, stack};
+
+const COUNT_MOST: usize = 65_535;
+const ROOM_MOST: usize = 8_192;
+
+pub fn longest_cases() -> Cases {
+    let mut cases = Cases::default();
+    let request = largest();
+    for length in [COUNT_MOST, 138_611, 200_000] {
+        cases.read(&vec![4; length]);
+    }
+    cases.sound(&request);
+    cases.bound(&request);
+    cases.write(ROOM_MOST, &request);
+    cases.place(ROOM_MOST, &vec![0; COUNT_MOST], &request);
+    cases.search(10, (ROOM_MOST, ROOM_MOST), &request);
+    cases.check(&vec![0; COUNT_MOST], &request);
+    cases.read_plan(ROOM_MOST, &vec![4; COUNT_MOST], &request);
+    cases.write_plan(ROOM_MOST, &vec![0; COUNT_MOST], &request);
+    longest_accepted(&mut cases);
+    cases
+}
+
+/// Starts behind the last demand's are not read, however many there are.
+fn longest_accepted(cases: &mut Cases) {
+    let request = stack(200, 0, &[1; 200]);
+    let starts: Vec<i64> = (0..COUNT_MOST as i64).collect();
+    let order: Vec<usize> = (0..200).collect();
+    cases.place(ROOM_MOST, &order, &request);
+    cases.check(&starts, &request);
+    cases.write_plan(ROOM_MOST, &starts, &request);
+    cases.search(200, (ROOM_MOST, ROOM_MOST), &stack(20, 0, &[1; 20]));
+}

@@ -1,0 +1,144 @@
+//! Streams in which not every frame is good: they are answered up to the first that is malformed.
+
+use super::chance::random_cases;
+use super::dice::Dice;
+use super::longest::longest_cases;
+use super::shapes::worked;
+use crate::frames::{call_of, frame_of, framed, next_frame, Call};
+use crate::request::{Band, Request};
+
+/// A damaged search may be given any limit. Streams with a larger one than this are left out: they would take too long.
+const LIMIT_MOST: u64 = 20_000;
+
+/// Streams of which each begins with a good frame, has a malformed one next, and may go on with a good one that is not to
+/// be answered.
+pub fn malformed() -> Vec<Vec<u8>> {
+    let good = frame_of(&Call::Sound { request: worked(384, 0) });
+    let mut streams = Vec::new();
+    for broken in unknown_ops() {
+        streams.push([&good[..], &broken].concat());
+        streams.push([&good[..], &broken, &good].concat());
+    }
+    for broken in wrong_lengths().into_iter().chain(too_much_room()).chain(overlong()) {
+        streams.push([&good[..], &broken, &good].concat());
+    }
+    for length in 1..good.len() {
+        streams.push([&good[..], &good[..length]].concat());
+    }
+    streams.push([&good[..], &[0x01, 0xFF, 0xFF, 0xFF, 0xFF], &good].concat());
+    streams
+}
+
+/// Streams of a few good frames, damaged by chance. Most end malformed, some are answered to their end.
+pub fn damaged(seed: u64, count: usize) -> Vec<Vec<u8>> {
+    let mut dice = Dice::new(seed);
+    let mut streams = Vec::new();
+    while streams.len() < count {
+        let stream = damaged_stream(&mut dice);
+        if !takes_long(&stream) {
+            streams.push(stream);
+        }
+    }
+    streams
+}
+
+fn unknown_ops() -> Vec<Vec<u8>> {
+    [0x00, 0x0C, 0x7F, 0xFF].iter().flat_map(|&op| [framed(op, &[]), framed(op, &[0; 40])]).collect()
+}
+
+/// A call of each op but the first, whose body can have any length.
+fn one_of_each(request: &Request) -> Vec<Call> {
+    let request = request.clone();
+    let band = Band::new(-284, 384, 0);
+    vec![
+        Call::Sound { request: request.clone() },
+        Call::WriteRequest { room: 43, request: request.clone() },
+        Call::Bound { request: request.clone() },
+        Call::FirstFit { room: 3, order: vec![2, 1, 0], request: request.clone() },
+        Call::Search { limit: 5, starts_room: 3, order_room: 3, request: request.clone() },
+        Call::Check { starts: vec![0, 3, 0], request: request.clone() },
+        Call::ReadPlan { room: 3, file: vec![4, 0, 4, 0, 10, 0, 0], request: request.clone() },
+        Call::WritePlan { room: 21, starts: vec![0, 3, 0], request },
+        Call::Frequency { band: band.clone(), start: 0, width: 2 },
+        Call::Block { band, n: -282, m: 2 },
+    ]
+}
+
+/// Bodies that end before their time, wherever that is, or a byte after it.
+fn wrong_lengths() -> Vec<Vec<u8>> {
+    let mut frames = Vec::new();
+    for frame in one_of_each(&worked(384, 0)).iter().map(frame_of) {
+        let (op, body) = (frame[0], &frame[5..]);
+        frames.extend((0..body.len()).map(|length| framed(op, &body[..length])));
+        frames.push(framed(op, &[body, &[0]].concat()));
+    }
+    frames
+}
+
+fn too_much_room() -> Vec<Vec<u8>> {
+    let request = worked(384, 0);
+    let mut calls = Vec::new();
+    for room in [8_193, 65_535] {
+        let request = request.clone();
+        calls.extend([
+            Call::WriteRequest { room, request: request.clone() },
+            Call::FirstFit { room, order: vec![0, 1, 2], request: request.clone() },
+            Call::Search { limit: 5, starts_room: room, order_room: 3, request: request.clone() },
+            Call::Search { limit: 5, starts_room: 3, order_room: room, request: request.clone() },
+            Call::ReadPlan { room, file: vec![], request: request.clone() },
+            Call::WritePlan { room, starts: vec![0, 3, 0], request },
+        ]);
+    }
+    calls.iter().map(frame_of).collect()
+}
+
+/// The longest bodies with a byte more, and bodies far longer than any call takes.
+fn overlong() -> Vec<Vec<u8>> {
+    let longest = longest_cases().calls;
+    let longer = longest.iter().map(frame_of).filter(|frame| frame[0] != 0x01);
+    let mut frames: Vec<Vec<u8>> = longer.map(|frame| framed(frame[0], &[&frame[5..], &[0]].concat())).collect();
+    frames.extend((0x02..=0x0B).map(|op| framed(op, &[0; 200_000])));
+    frames
+}
+
+fn damaged_stream(dice: &mut Dice) -> Vec<u8> {
+    let seed = dice.below(usize::MAX) as u64;
+    let frames: Vec<Vec<u8>> = random_cases(seed, 1 + dice.below(4)).calls.iter().map(frame_of).collect();
+    let mut stream: Vec<u8> = frames.iter().flat_map(|frame| damaged_frame(frame, dice)).collect();
+    if dice.one_in(4) {
+        damage_bytes(&mut stream, dice);
+    }
+    stream
+}
+
+/// Damage to the body, with a length that is right; now and then another op.
+fn damaged_frame(frame: &[u8], dice: &mut Dice) -> Vec<u8> {
+    let mut body = frame[5..].to_vec();
+    while dice.one_in(2) {
+        damage_bytes(&mut body, dice);
+    }
+    let op = if dice.one_in(10) { dice.below(13) as u8 } else { frame[0] };
+    framed(op, &body)
+}
+
+fn damage_bytes(bytes: &mut Vec<u8>, dice: &mut Dice) {
+    let at = dice.below(bytes.len());
+    match dice.below(8) {
+        0 => bytes.truncate(at),
+        1 => bytes.insert(at, dice.below(256) as u8),
+        2 if !bytes.is_empty() => drop(bytes.remove(at)),
+        3 if !bytes.is_empty() => bytes[at] = dice.pick(&[0, 1, 0x7F, 0x80, 0xFF]),
+        4 if !bytes.is_empty() => bytes[at] = dice.below(256) as u8,
+        _ if !bytes.is_empty() => bytes[at] ^= 1 << dice.below(8),
+        _ => {}
+    }
+}
+
+fn takes_long(mut stream: &[u8]) -> bool {
+    while let Some(call) = next_frame(&mut stream).and_then(|(op, body)| call_of(op, body)) {
+        if matches!(call, Call::Search { limit, .. } if limit > LIMIT_MOST) {
+            return true;
+        }
+    }
+    false
+}
