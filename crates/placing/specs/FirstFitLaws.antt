@@ -112,11 +112,8 @@ copied-fitted out rows K at starts few e given =
     listing-at f K j 0 low ∙ given rows e j (omega arith) ∙ sym (listing-at (startIn rows) K j 0 low)))
     ∙ sym (ap (λ (o : Fitted). fittedStarts K o starts) e)
 
--- two results of first fit are equal: the replies, and the starts
-pub first-fit-one-reply : (v : View) (order starts : List ℕ) (a b : PlacedReply) →
-    a ≡ firstFitReply v order starts → b ≡ firstFitReply v order starts → a ≡ b
-first-fit-one-reply v order starts a b ha hb = ha ∙ sym hb
-
-pub first-fit-one-plan : (v : View) (order starts a b : List ℕ) →
-    a ≡ firstFitStarts v order starts → b ≡ firstFitStarts v order starts → a ≡ b
-first-fit-one-plan v order starts a b ha hb = ha ∙ sym hb
+-- two results of first fit are equal, and leave the same in the buffer
+pub same-first-fit : (v : View) (order starts : List ℕ) (a a′ : PlacedReply) (b b′ : List ℕ) →
+    a ≡ firstFitReply v order starts → b ≡ firstFitStarts v order starts → a′ ≡ firstFitReply v order starts → b′ ≡ firstFitStarts v order starts →
+    (a ≡ a′) × (b ≡ b′)
+same-first-fit v order starts a a′ b b′ h k h′ k′ = (h ∙ sym h′, k ∙ sym k′)

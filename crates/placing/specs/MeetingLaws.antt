@@ -228,10 +228,10 @@ table-entry v i j none hi hj =
     ∙ listing-at (λ (k : ℕ). problemOf v .joined i k) 20 j false hj
 
 -- two results of the call for the table are equal
-pub one-table : (v : View) (a b : List (List Bool)) → a ≡ meetingTable v → b ≡ meetingTable v → a ≡ b
-one-table v a b ha hb = ha ∙ sym hb
+pub same-table : (v : View) (a b : List (List Bool)) → a ≡ meetingTable v → b ≡ meetingTable v → a ≡ b
+same-table v a b ha hb = ha ∙ sym hb
 
 -- two results of the call for two demands are equal
-pub one-share : (d other : Demand) (a b : Bool) → a ≡ shareLink (viewDemand d .route) (viewDemand other .route) →
+pub same-share : (d other : Demand) (a b : Bool) → a ≡ shareLink (viewDemand d .route) (viewDemand other .route) →
     b ≡ shareLink (viewDemand d .route) (viewDemand other .route) → a ≡ b
-one-share d other a b ha hb = ha ∙ sym hb
+same-share d other a b ha hb = ha ∙ sym hb

@@ -23,5 +23,5 @@ unfolding boundReply boundAfter
 bound-refused v why fails = sym (ap (λ (c : Checked). boundAfter c (bound-reply.Bound (boundOf v))) fails)
 
 -- two results of the call are equal
-pub bound-one-reply : (v : View) (a b : BoundReply) → a ≡ boundReply v → b ≡ boundReply v → a ≡ b
-bound-one-reply v a b ha hb = ha ∙ sym hb
+pub same-bound : (v : View) (a b : BoundReply) → a ≡ boundReply v → b ≡ boundReply v → a ≡ b
+same-bound v a b ha hb = ha ∙ sym hb

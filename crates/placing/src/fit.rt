@@ -53,7 +53,7 @@ fn start_beside(
 
 // Places the demands of an order one by one, each at its lowest start beside those before it; `at` gets the starts by listing
 // position.
-pub fn place_all(request: Request, order: &[u16], at: &mut [u16; 200]) -> PlacedReply
+pub(crate) fn place_all(request: Request, order: &[u16], at: &mut [u16; 200]) -> PlacedReply
     requires { ⌜ PlaceAsked (view request) (now order) (now at) ⌝ }
     ensures { λ r. ⌜ r ≡ fittedReply (problemOf (view request)) (fitted (view request) (now (order .entry))) ⌝ }
     ensures { λ r. ⌜ StartsGiven (fitted (view request) (now (order .entry))) (now (at .exit)) ⌝ }
@@ -81,7 +81,7 @@ pub fn place_all(request: Request, order: &[u16], at: &mut [u16; 200]) -> Placed
 }
 
 // Writes the first starts into a lent buffer.
-pub fn copy_starts(at: &[u16; 200], count: usize, starts: &mut [u16])
+pub(crate) fn copy_starts(at: &[u16; 200], count: usize, starts: &mut [u16])
     requires { ⌜ CopyAsked count (now starts) ⌝ }
     ensures { λ r. ⌜ now (starts .exit) ≡ copiedStarts count (now (at .entry)) (now (starts .entry)) ⌝ }
 {

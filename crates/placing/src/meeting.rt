@@ -8,7 +8,7 @@ ghost use Rattle.request.specs.View.{view};
 ghost use Rattle.placing.specs.Meeting.{DemandCount, MeetingRow, FirstTwenty};
 
 // How many demands of a request's array are asked for.
-pub fn demands_asked(request: Request) -> usize
+pub(crate) fn demands_asked(request: Request) -> usize
     ensures { λ r. ⌜ DemandCount request r ⌝ }
 {
     let count = request.demand_count;
@@ -20,7 +20,7 @@ pub fn demands_asked(request: Request) -> usize
 }
 
 // Which demands share a link with demand i. Its route is marked once, so that each other route is gone through once.
-pub fn meeting_row(request: Request, i: usize) -> [bool; 200]
+pub(crate) fn meeting_row(request: Request, i: usize) -> [bool; 200]
     requires { ⌜ i < length (view request .demands) ⌝ }
     ensures { λ r. ⌜ MeetingRow (view request) i r ⌝ }
 {
@@ -38,7 +38,7 @@ pub fn meeting_row(request: Request, i: usize) -> [bool; 200]
 }
 
 // The first twenty entries of a row.
-pub fn first_twenty(row: &[bool; 200]) -> [bool; 20]
+pub(crate) fn first_twenty(row: &[bool; 200]) -> [bool; 20]
     ensures { λ r. ⌜ FirstTwenty (now (row .entry)) r ⌝ }
 {
     let mut twenty = [false; 20];

@@ -42,7 +42,7 @@ fn link_need(request: Request, link: usize) -> u32
 }
 
 // The largest need of a link.
-pub fn largest_need(request: Request) -> u32
+pub(crate) fn largest_need(request: Request) -> u32
     ensures { λ r. ⌜ r ≡ boundOf (view request) ⌝ }
 {
     let count = request.link_count;

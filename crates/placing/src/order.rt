@@ -30,7 +30,7 @@ fn check_entries(order: &[u16], count: usize) -> Checked
 }
 
 // Whether an order lists each of the demands once, or 12.
-pub fn check_order(order: &[u16], count: usize) -> Checked
+pub(crate) fn check_order(order: &[u16], count: usize) -> Checked
     requires { ⌜ count ≤ 200 ⌝ }
     ensures { λ r. ⌜ r ≡ checkOrder count (now (order .entry)) ⌝ }
 {

@@ -22,7 +22,7 @@ fn route_length(demand: Demand) -> usize
 }
 
 // Which link numbers stand in a demand's route.
-pub fn route_marks(demand: Demand) -> [bool; 256]
+pub(crate) fn route_marks(demand: Demand) -> [bool; 256]
     ensures { λ r. ⌜ MarksOf 256 (viewDemand demand .route) r ⌝ }
 {
     let mut marks = [false; 256];
@@ -38,7 +38,7 @@ pub fn route_marks(demand: Demand) -> [bool; 256]
 }
 
 // Whether a demand's route shares a link with the route that the marks are of.
-pub fn route_marked(marks: &[bool; 256], demand: Demand) -> bool
+pub(crate) fn route_marked(marks: &[bool; 256], demand: Demand) -> bool
     ensures { λ r. ⌜ ((route : List ℕ) → MarksOf 256 route (now (marks .entry)) → r ≡ shareLink (viewDemand demand .route) route) ⌝ }
 {
     let hops = route_length(demand);
@@ -63,7 +63,7 @@ pub fn share_link(demand: Demand, other: Demand) -> bool
 }
 
 // Whether a link stands in a demand's route.
-pub fn on_link(demand: Demand, link: usize) -> bool
+pub(crate) fn on_link(demand: Demand, link: usize) -> bool
     ensures { λ r. ⌜ r ≡ has link (viewDemand demand .route) ⌝ }
 {
     let hops = route_length(demand);

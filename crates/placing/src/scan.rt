@@ -13,14 +13,14 @@ pub enum Spot {
 }
 
 // The higher of two slots.
-pub fn higher(a: u16, b: u16) -> u16
+pub(crate) fn higher(a: u16, b: u16) -> u16
     ensures { λ r. ⌜ r ≡ max a b ⌝ }
 {
     if a < b { b } else { a }
 }
 
 // A slot where a test holds, else 0.
-pub fn slot_if(test: bool, slot: u16) -> u16
+pub(crate) fn slot_if(test: bool, slot: u16) -> u16
     ensures { λ r. ⌜ r ≡ cond test slot 0 ⌝ }
 {
     if test { slot } else { 0 }
@@ -45,7 +45,7 @@ fn look(near: &[u16; 200], low: &[u16; 200], placed: usize, span: u16, start: u1
 
 // The lowest start up to a limit. Each look that finds a clash passes a block for good, so there are no more looks than
 // blocks that share a link, and one.
-pub fn lowest_within(
+pub(crate) fn lowest_within(
     near: &[u16; 200],
     low: &[u16; 200],
     placed: usize,

@@ -31,7 +31,7 @@ pub fn check_starts(request: Request, starts: &[u16]) -> CheckReply
 }
 
 // The request, 16, 17, 18.
-pub fn check_plan(request: Request, starts: &[u16]) -> Checked
+pub(crate) fn check_plan(request: Request, starts: &[u16]) -> Checked
     ensures { λ r. ⌜ r ≡ checkStarts (view request) (now (starts .entry)) ⌝ }
 {
     let sound = check_request(request);
@@ -68,14 +68,14 @@ fn check_ends(request: Request, starts: &[u16]) -> Checked
 }
 
 // Whether a block ends above the slot count: summed in 32 bits, where it never wraps.
-pub fn end_above(start: u16, width: u16, slots: u16) -> bool
+pub(crate) fn end_above(start: u16, width: u16, slots: u16) -> bool
     ensures { λ r. ⌜ r ≡ ltb slots (start + width) ⌝ }
 {
     (slots as u32) < start as u32 + width as u32
 }
 
 // 18 at the lowest listing position that clashes with an earlier one.
-pub fn check_clashes(request: Request, starts: &[u16]) -> Checked
+pub(crate) fn check_clashes(request: Request, starts: &[u16]) -> Checked
     requires { ⌜ request .«demand_count» ≤ 200 ⌝ }
     requires { ⌜ request .«demand_count» ≤ length (now starts) ⌝ }
     ensures { λ r. ⌜ r ≡ checkClashes (problemOf (view request)) (now (starts .entry)) [] 0 (view request .demands) ⌝ }
@@ -121,7 +121,7 @@ fn too_close(first: u16, width: u16, second: u16, breadth: u16, guard: u8) -> bo
 }
 
 // The plan's end: the largest end, 0 when there is no demand.
-pub fn plan_end(request: Request, starts: &[u16]) -> u16
+pub(crate) fn plan_end(request: Request, starts: &[u16]) -> u16
     requires { ⌜ request .«demand_count» ≤ 200 ⌝ }
     requires { ⌜ request .«demand_count» ≤ length (now starts) ⌝ }
     requires { ⌜ checkEnds (request .band .slots) (now starts) 0 (view request .demands) ≡ Checked.Sound ⌝ }

@@ -34,7 +34,7 @@ impl Page {
     pub const ROOM: usize = 1024;
 
     // A page with nothing on it.
-    pub fn empty() -> Page
+    fn empty() -> Page
         ensures { λ r. ⌜ r ≡ emptyPage ⌝ }
     {
         Page {

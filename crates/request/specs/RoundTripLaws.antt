@@ -30,7 +30,7 @@ use Rattle.request.specs.EncodingLaws.{links-bytes, file-bytes}
 use Rattle.request.specs.Reading.{FileReading, refused, accepted, must, bandIn, checkBandField, LinksRead, linksRefused, linksRead, readLinks, DemandsRead, demandsRefused, demandsRead, idents, readDemands, withDemands, withLinks, withBand, readFile}
 use Rattle.request.specs.ReadingLaws.{by-check, field-sound, band-holds, band-long, band-sound}
 use Rattle.request.specs.FileLaws.{file-links}
-use Rattle.request.specs.Packing.{packReading}
+use Rattle.request.specs.Packing.{emptyRequest, packReading}
 use Rattle.request.specs.Writing.{written, outAfter}
 use Rattle.request.specs.OutLaws.{wrote-answer, wrote-front, wrote-says}
 use Rattle.request.specs.RoundTrip.{Bytes, Idents16, Accepted}
@@ -214,3 +214,7 @@ pub same-writing : (q q′ : Request) (out : List ℕ) (r r′ : Written) (after
     r ≡ written (view q) out → r′ ≡ written (view q′) out → after ≡ outAfter (view q) out → after′ ≡ outAfter (view q′) out → (r ≡ r′) × (after ≡ after′)
 same-writing q q′ out r r′ after after′ same e e′ f f′ =
     (e ∙ ap (λ (v : View). written v out) same ∙ sym e′, f ∙ ap (λ (v : View). outAfter v out) same ∙ sym f′)
+
+-- two empty requests are equal
+pub same-empty : (q q′ : Request) → q ≡ emptyRequest → q′ ≡ emptyRequest → q ≡ q′
+same-empty q q′ e e′ = e ∙ sym e′

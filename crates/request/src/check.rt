@@ -107,7 +107,7 @@ fn check_demand(
 }
 
 // Whether the route of a demand is sound: of its first `hops` links, or of all that there is room for.
-pub fn demand_route_sound(demand: Demand, links: [Link; 64], count: usize) -> bool
+pub(crate) fn demand_route_sound(demand: Demand, links: [Link; 64], count: usize) -> bool
     ensures { λ r. ⌜ r ≡ soundRoute (take count links) (viewDemand demand .route) ⌝ }
 {
     let hops = demand.hops;
@@ -120,7 +120,7 @@ pub fn demand_route_sound(demand: Demand, links: [Link; 64], count: usize) -> bo
 }
 
 // Whether one of the earlier idents is this one.
-pub fn ident_used(earlier: &[u16], ident: u16) -> bool
+pub(crate) fn ident_used(earlier: &[u16], ident: u16) -> bool
     ensures { λ r. ⌜ r ≡ has ident (now (earlier .entry)) ⌝ }
 {
     let mut i = 0;
@@ -134,14 +134,14 @@ pub fn ident_used(earlier: &[u16], ident: u16) -> bool
 }
 
 // A width is 1 to the slot count.
-pub fn allowed_width(slots: u16, width: u16) -> bool
+pub(crate) fn allowed_width(slots: u16, width: u16) -> bool
     ensures { λ r. ⌜ r ≡ allowedWidth slots width ⌝ }
 {
     if 1 <= width { width <= slots } else { false }
 }
 
 // A route has 1 to 32 links.
-pub fn allowed_hops(hops: usize) -> bool
+pub(crate) fn allowed_hops(hops: usize) -> bool
     ensures { λ r. ⌜ r ≡ allowedHops hops ⌝ }
 {
     if 1 <= hops {

@@ -9,7 +9,7 @@ ghost use Rattle.request.specs.Check.{has, soundRoute};
 
 // Whether a route over the first `count` links is sound: each link is listed, stood not before, and begins where the one before
 // ends. Tested in this sequence, so that only a listed link is looked up.
-pub fn sound_route(route: &[u8], links: [Link; 64], count: usize) -> bool
+pub(crate) fn sound_route(route: &[u8], links: [Link; 64], count: usize) -> bool
     ensures { λ r. ⌜ r ≡ soundRoute (take count links) (now (route .entry)) ⌝ }
 {
     let mut node = 0;

@@ -4,7 +4,7 @@ use Prim.Native.Nat.{ℕ, _+_, _≤_, _<_}
 use mathlib.Core.List.{List, [], _∷_, _++_, List·Memᴰ}
 use mathlib.Core.Logic.{_≢_}
 use mathlib.Core.Path.{_≡_}
-use lib.ListN.{length}
+use lib.ListN.{length, take, drop}
 use Rattle.theory.specs.Arrange.{Arrange}
 use Rattle.theory.specs.Earlier.{Lower}
 use Rattle.theory.specs.Orders.{factorial, orders, listing}
@@ -90,3 +90,18 @@ Promised v limit a starts order (Finished e) = BestThereIs v a e starts order
 Promised v limit a starts order NothingFits = NoPlanExists v a
 Promised v limit a starts order (Unfinished e) = BestSoFar v limit a e starts order
 Promised v limit a starts order UnfinishedEmpty = NoneSoFar v limit a
+
+-- with a plan the first K entries of a buffer are written, and those behind them stay; without one all of it stays
+unfoldable pub RestKept : ℕ → Outcome → List ℕ → List ℕ → Type 0
+RestKept K (Finished e) before after = drop K after ≡ drop K before
+RestKept K NothingFits before after = after ≡ before
+RestKept K (Unfinished e) before after = drop K after ≡ drop K before
+RestKept K UnfinishedEmpty before after = after ≡ before
+
+-- an answer, and what the two lent buffers hold afterwards: its promise holds of their first K entries, which are the plan's starts and its
+-- order; no step beyond the limit was taken; the rest of the buffers stays
+pub record AnswerKept (v : View) (limit : ℕ) (a : Answer) (starts order starts-after order-after : List ℕ) : Type 0 where
+  pub promised : Promised v limit a (take (v .demandCount) starts-after) (take (v .demandCount) order-after) (a .outcome)
+  pub steps-within : a .steps ≤ limit
+  pub starts-kept : RestKept (v .demandCount) (a .outcome) starts starts-after
+  pub order-kept : RestKept (v .demandCount) (a .outcome) order order-after

@@ -23,6 +23,7 @@ use Rattle.placing.specs.declared.BoundReply.the-variants as bound-reply
 use Rattle.placing.specs.Placing.{boundOf}
 use Rattle.placing.specs.Reply.{boundReply}
 use Rattle.placing.specs.ReplyLaws.{bound-answered}
+use Rattle.search.specs.declared.SearchReply.{SearchReply}
 use Rattle.search.specs.declared.SearchReply.the-variants as reply
 use Rattle.search.specs.Told.{isSpent, isMet}
 use Rattle.search.specs.Reply.{outcomeTold, outcomeBy, answerTold, checkRoom, checkSearch, replyTo, searched, startsOf, over, startsKept, orderKept, unlessRefused, searchReply, startsAfter, orderAfter}
@@ -197,3 +198,10 @@ over-more entries buffer k h l =
   where
     first : length (take k entries) ≡ k
     first = length-take-le k entries (omega arith)
+
+-- two results that meet the contract of `search` are equal, and leave the same in both buffers
+pub same-search : (v : View) (limit : ℕ) (starts order : List ℕ) (a a′ : SearchReply) (s s′ o o′ : List ℕ) →
+    a ≡ searchReply v limit (length starts) (length order) → s ≡ startsAfter v limit starts order → o ≡ orderAfter v limit starts order →
+    a′ ≡ searchReply v limit (length starts) (length order) → s′ ≡ startsAfter v limit starts order → o′ ≡ orderAfter v limit starts order →
+    (a ≡ a′) × (s ≡ s′) × (o ≡ o′)
+same-search v limit starts order a a′ s s′ o o′ h k l h′ k′ l′ = (h ∙ sym h′, k ∙ sym k′, l ∙ sym l′)

@@ -1,2 +1,1 @@
 // The mathematics of placing: definitions and theorems alone, in specs/. There is nothing here to run.
-pub fn nothing() {}

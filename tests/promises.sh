@@ -1,0 +1,109 @@
+#!/usr/bin/env bash
+# Holds docs/PROMISES.md against the sources. Each public function of each crate has one row there; the definitions that a row names are
+# cited by the function's contract and by the theorem beside them; the theorem and the two edits stand in the function's crate; and no public
+# function has a `requires`. The last line is "N passed, M failed"; each failure is a line of its own above it.
+set -euo pipefail
+cd "$(dirname "$0")/.."
+
+table=docs/PROMISES.md
+work=$(mktemp -d)
+trap 'rm -rf "$work"' EXIT
+passed=0
+failed=0
+
+pass() { passed=$((passed + 1)); }
+fail() {
+    echo "FAILED: $*"
+    failed=$((failed + 1))
+}
+
+# Each public function as "crate|name|file|line". A method is named Type::method. What is public inside its crate alone is left out.
+public_functions() {
+    find crates/*/src -name '*.rt' | sort | while read -r file; do
+        crate=${file#crates/}
+        crate=${crate%%/*}
+        awk -v crate="$crate" -v file="$file" '
+            /^impl / { type = $2 "::" }
+            /^}/ { type = "" }
+            /^[ ]*pub (extern "C" )?fn / {
+                name = $0
+                sub(/^[ ]*pub (extern "C" )?fn /, "", name)
+                sub(/[^A-Za-z0-9_].*/, "", name)
+                print crate "|" type name "|" file "|" NR
+            }' "$file"
+    done
+}
+
+# The lines of a contract: from the function's line to the one that opens its body.
+contract_of() { awk -v from="$2" 'NR > from && /^[ ]*{$/ { exit } NR >= from' "$1"; }
+
+# Each row of the table as "crate::name|definitions|theorem|edit|edit", the words of a cell parted by spaces.
+rows_of_the_table() {
+    awk -F'|' '/^\| `[a-z0-9_]+::/ {
+        for (i = 2; i <= 7; i++) { gsub(/^ +| +$/, "", $i) }
+        gsub(/`/, "", $2); gsub(/[`,]/, "", $4); gsub(/`/, "", $5)
+        first = $6; second = $7
+        sub(/^[^`]*`/, "", first); sub(/`.*/, "", first)
+        sub(/^[^`]*`/, "", second); sub(/`.*/, "", second)
+        print $2 "|" $4 "|" $5 "|" first "|" second
+    }' "$table"
+}
+
+# The statement of a theorem: from its name to the line before its first clause.
+statement_of() {
+    cat crates/"$1"/specs/*Laws.antt | awk -v name="$2" '
+        $0 ~ "^ *pub " name " :" { on = 1 }
+        on && ($0 ~ "^ *" name " " || $0 ~ "^ *unfolding ") { exit }
+        on'
+}
+
+# A word that stands in the text on standard input, whole.
+has_word() { grep -qE "(^|[^[:alnum:]_′-])$1([^[:alnum:]_′-]|\$)"; }
+
+check_row() {
+    local crate=$1 name=$2 file=$3 line=$4 definitions theorem first second
+    IFS='|' read -r _ definitions theorem first second < <(grep "^$crate::$name|" "$work/rows")
+    contract_of "$file" "$line" >"$work/contract"
+    statement_of "$crate" "$theorem" >"$work/statement"
+    if grep -q '^[ ]*requires' "$work/contract"; then fail "$crate::$name has a requires"; else pass; fi
+    if [ -s "$work/statement" ]; then pass; else fail "$crate::$name: no theorem $theorem in crates/$crate/specs"; fi
+    [ -n "$definitions" ] || fail "$crate::$name names no definition"
+    for definition in $definitions; do
+        if grep -qE "^ *(unfoldable |abbrev )?pub $definition :" crates/*/specs/*.antt; then pass; else fail "$crate::$name: no definition $definition"; fi
+        if has_word "$definition" <"$work/contract"; then pass; else fail "the contract of $crate::$name does not cite $definition"; fi
+        if has_word "$definition" <"$work/statement"; then pass; else fail "theorem $theorem does not cite $definition"; fi
+    done
+    [ "$first" != "$second" ] || fail "$crate::$name names one edit twice"
+    for edit in "$first" "$second"; do
+        if [ -n "$edit" ] && [ -f "crates/$crate/must-fail/$edit.edit" ]; then pass; else fail "$crate::$name: no edit '$edit' in crates/$crate/must-fail"; fi
+    done
+}
+
+public_functions >"$work/functions"
+rows_of_the_table >"$work/rows"
+without=0
+while IFS='|' read -r crate name file line; do
+    count=$(grep -c "^$crate::$name|" "$work/rows" || true)
+    case $count in
+    1) check_row "$crate" "$name" "$file" "$line" ;;
+    0)
+        fail "$crate::$name ($file:$line) has no row in $table"
+        without=$((without + 1))
+        ;;
+    *) fail "$crate::$name has $count rows in $table" ;;
+    esac
+done <"$work/functions"
+
+# And the other way: a row is of a function that there is.
+while IFS='|' read -r key _; do
+    if awk -F'|' -v key="$key" '$1 "::" $2 == key { found = 1 } END { exit !found }' "$work/functions"; then pass; else fail "$table has a row for $key, which is no public function"; fi
+done <"$work/rows"
+
+# Each theorem and definition that the documents name in the form crates/NAME/specs/FILE.antt `name` stands there.
+while read -r path name; do
+    if grep -qE "^ *(unfoldable |abbrev )?pub (record |data )?$name( |\$)" "$path" 2>/dev/null; then pass; else fail "$table names $name in $path, where it is not"; fi
+done < <(grep -ohE '`crates/[a-z]+/specs/[A-Za-z0-9]+\.antt` `[^` ]+`' "$table" | tr -d '`')
+
+echo "public functions: $(wc -l <"$work/functions"); with no row: $without"
+echo "$passed passed, $failed failed"
+[ "$failed" = 0 ]
