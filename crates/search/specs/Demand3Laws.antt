@@ -5,13 +5,14 @@ use mathlib.Core.List.{List, [], _∷_, _++_, map, append-assoc, List·Memᴰ, L
 use mathlib.Core.Logic.{⊎-elim}
 use mathlib.Core.Path.{_≡_, refl, sym, subst, ap, _∙_}
 use native.Mathlib.Omega.{arith}
-use lib.ListN.{length, getD}
+use lib.ListN.{length, take, drop, getD, length-map}
+use lib.Seq.{take-at, drop-at}
 use Rattle.theory.specs.Earlier.{Lower}
 use Rattle.theory.specs.Orders.{factorial, orders, countUp, listing}
 use Rattle.theory.specs.OrdersLaws.{orders-arrange, earlier-listed-before}
 use Rattle.theory.specs.ListingLaws.{listing-below, listing-length, listing-no-repeats, listing-rising}
 use Rattle.theory.specs.Arrange.{Arrange}
-use Rattle.theory.specs.ArrangeLaws.{arrange-mem}
+use Rattle.theory.specs.ArrangeLaws.{arrange-mem, arrange-length}
 use Rattle.theory.specs.EarlierLaws.{lower-earlier}
 use Rattle.theory.specs.AlikeLaws.{planEnd-alike, allowed-alike}
 use Rattle.theory.specs.Problem.{Problem, Row, fill, top, startIn, Allowed, planEnd}
@@ -20,9 +21,10 @@ use Rattle.theory.specs.Tried.{endsAt, FirstLowest}
 use Rattle.theory.specs.Walk.{Best, none-met, met}
 use Rattle.theory.specs.Search as theory
 use Rattle.theory.specs.Promises as promises
-use Rattle.theory.specs.SearchLaws.{search-promise}
+use Rattle.theory.specs.SearchLaws.{search-promise, search-steps}
 use Rattle.request.specs.declared.Request.{Request}
-use Rattle.request.specs.declared.Checked.the-variants.{Sound}
+use Rattle.request.specs.declared.Checked.{Checked}
+use Rattle.request.specs.declared.Checked.the-variants.{Sound, Refused}
 use Rattle.request.specs.View.{View, view, demandAt}
 use Rattle.request.specs.Check.{check}
 use Rattle.request.specs.Whole.{Whole}
@@ -35,8 +37,12 @@ use Rattle.placing.specs.PlanLaws.{slots-to-ends, ends-to-slots, share-swap}
 use Rattle.placing.specs.BoundLaws.{bound-below}
 use Rattle.placing.specs.MeetingLaws.{listing-at}
 use Rattle.placing.specs.PlanEndLaws.{plan-end-is}
-use Rattle.search.specs.Reply.{searched, outcomeTold, answerTold, startsOf}
-use Rattle.search.specs.Demand3.{OrderOf, endInOrder, PlanShown, NoneLower, Rank, BestThereIs, NoPlanExists, StepsUsedUp, BestSoFar, NoneSoFar, Promised}
+use Rattle.search.specs.declared.Outcome.{Outcome}
+use Rattle.search.specs.declared.Answer.{Answer}
+use Rattle.search.specs.declared.SearchReply.the-variants as reply
+use Rattle.search.specs.Reply.{searched, outcomeTold, answerTold, checkSearch, replyTo, startsOf, over, startsKept, orderKept, unlessRefused, searchReply, startsAfter, orderAfter}
+use Rattle.search.specs.ReplyLaws.{passed-searchable}
+use Rattle.search.specs.Demand3.{OrderOf, endInOrder, PlanShown, NoneLower, Rank, BestThereIs, NoPlanExists, StepsUsedUp, BestSoFar, NoneSoFar, Promised, RestKept, AnswerKept}
 
 -- an order that comes before another is listed before it
 listed-before : (K : ℕ) (earlier later : List (List ℕ)) (order other : List ℕ) → orders (listing K) ≡ earlier ++ (order ∷ later) →
@@ -50,14 +56,43 @@ pub start-listed : (K : ℕ) (rows : List Row) (i : ℕ) → i < K → startAt (
 unfolding startAt startsOf
 start-listed K rows i h = listing-at (startIn rows) K i 0 h
 
--- the starts and the order that an answer shows; without a plan none
-unfoldable pub startsShown : ℕ → Best → List ℕ
-startsShown K none-met = []
-startsShown K (met rows order) = startsOf K rows
+-- entries at the front of a buffer: the first K are theirs
+front-written : (K : ℕ) (entries buffer : List ℕ) → length entries ≡ K → take K (over entries buffer) ≡ entries
+unfolding over
+front-written K entries buffer h = take-at entries (drop (length entries) buffer) K h
 
-unfoldable pub orderShown : Best → List ℕ
-orderShown none-met = []
-orderShown (met rows order) = order
+-- and what stands behind them stays
+rest-kept : (K : ℕ) (entries buffer : List ℕ) → length entries ≡ K → drop K (over entries buffer) ≡ drop K buffer
+unfolding over
+rest-kept K entries buffer h = drop-at entries (drop (length entries) buffer) K h ∙ ap (λ (n : ℕ). drop n buffer) h
+
+-- with a plan the buffer of starts holds the plan's starts, and stays behind them
+starts-written : (K : ℕ) (best : Best) (rows : List Row) (order buffer : List ℕ) → best ≡ met rows order →
+    (take K (startsKept K best buffer) ≡ startsOf K rows) × (drop K (startsKept K best buffer) ≡ drop K buffer)
+unfolding startsKept startsOf
+starts-written K best rows order buffer h =
+    subst (λ (b : Best). (take K (startsKept K b buffer) ≡ startsOf K rows) × (drop K (startsKept K b buffer) ≡ drop K buffer)) (sym h)
+    (front-written K (startsOf K rows) buffer long, rest-kept K (startsOf K rows) buffer long)
+  where
+    long : length (startsOf K rows) ≡ K
+    long = length-map (listing K) (startIn rows) ∙ listing-length K
+
+-- and the buffer of the order holds the order
+order-written : (K : ℕ) (best : Best) (rows : List Row) (order buffer : List ℕ) → best ≡ met rows order → length order ≡ K →
+    (take K (orderKept best buffer) ≡ order) × (drop K (orderKept best buffer) ≡ drop K buffer)
+unfolding orderKept
+order-written K best rows order buffer h long =
+    subst (λ (b : Best). (take K (orderKept b buffer) ≡ order) × (drop K (orderKept b buffer) ≡ drop K buffer)) (sym h)
+    (front-written K order buffer long, rest-kept K order buffer long)
+
+-- without a plan both stay
+starts-unwritten : (K : ℕ) (best : Best) (buffer : List ℕ) → best ≡ none-met → startsKept K best buffer ≡ buffer
+unfolding startsKept
+starts-unwritten K best buffer h = ap (λ (b : Best). startsKept K b buffer) h
+
+order-unwritten : (best : Best) (buffer : List ℕ) → best ≡ none-met → orderKept best buffer ≡ buffer
+unfolding orderKept
+order-unwritten best buffer h = ap (λ (b : Best). orderKept b buffer) h
 
 -- what the promises rest on holds of every sound request
 pub grounds-of : (v : View) → SoundRequest v → length (v .demands) ≡ v .demandCount →
@@ -115,13 +150,13 @@ module _ (v : View) (sound : SoundRequest v) (counted : length (v .demands) ≡ 
       subst (λ (l : List (List ℕ)). List·Memᴰ order l) (sym split) (Memᴰ·append-right earlier (List·Memᴰ·head refl))
 
   -- finished: the best there is
-  finished-best : (a : theory.Answer) (e : ℕ) → promises.Finished P (v .band .slots) (boundOf v) [] todo a e →
-      (starts order : List ℕ) → starts ≡ startsShown (v .demandCount) (a .best) → order ≡ orderShown (a .best) →
+  finished-best : (a : theory.Answer) (e : ℕ) (f : promises.Finished P (v .band .slots) (boundOf v) [] todo a e) →
+      (starts order : List ℕ) → starts ≡ startsOf (v .demandCount) (fill P [] (f .order)) → order ≡ f .order →
       BestThereIs v (answerTold a) e starts order
-  unfolding answerTold OrderOf endInOrder endsAt startsShown orderShown
+  unfolding answerTold OrderOf endInOrder endsAt
   finished-best a e f starts order es eo =
-      subst (λ (s : List ℕ). BestThereIs v (answerTold a) e s order) (sym (es ∙ ap (startsShown (v .demandCount)) (f .shown .best-is)))
-      (subst (λ (o : List ℕ). BestThereIs v (answerTold a) e (startsOf (v .demandCount) (fill P [] (f .order))) o) (sym (eo ∙ ap orderShown (f .shown .best-is)))
+      subst (λ (s : List ℕ). BestThereIs v (answerTold a) e s order) (sym es)
+      (subst (λ (o : List ℕ). BestThereIs v (answerTold a) e (startsOf (v .demandCount) (fill P [] (f .order))) o) (sym eo)
       (record {
         shown = plan-shown a (f .order) e listed (f .shown);
         none-lower = none-lower e (f .none-lower);
@@ -159,13 +194,13 @@ module _ (v : View) (sound : SoundRequest v) (counted : length (v .demands) ≡ 
       }
 
   -- unfinished with a plan: the best so far
-  unfinished-best : (a : theory.Answer) (e : ℕ) → promises.Unfinished P (v .band .slots) (boundOf v) limit [] todo a e →
-      (starts order : List ℕ) → starts ≡ startsShown (v .demandCount) (a .best) → order ≡ orderShown (a .best) →
+  unfinished-best : (a : theory.Answer) (e : ℕ) (f : promises.Unfinished P (v .band .slots) (boundOf v) limit [] todo a e) →
+      (starts order : List ℕ) → starts ≡ startsOf (v .demandCount) (fill P [] (f .order)) → order ≡ f .order →
       BestSoFar v limit (answerTold a) e starts order
-  unfolding endInOrder endsAt startsShown orderShown
+  unfolding endInOrder endsAt
   unfinished-best a e f starts order es eo =
-      subst (λ (s : List ℕ). BestSoFar v limit (answerTold a) e s order) (sym (es ∙ ap (startsShown (v .demandCount)) (f .shown .best-is)))
-      (subst (λ (o : List ℕ). BestSoFar v limit (answerTold a) e (startsOf (v .demandCount) (fill P [] (f .order))) o) (sym (eo ∙ ap orderShown (f .shown .best-is)))
+      subst (λ (s : List ℕ). BestSoFar v limit (answerTold a) e s order) (sym es)
+      (subst (λ (o : List ℕ). BestSoFar v limit (answerTold a) e (startsOf (v .demandCount) (fill P [] (f .order))) o) (sym eo)
       (record {
         orders-met = f .taken-in;
         stopped = stopped-used a (f .taken-in) (f .stopped);
@@ -208,30 +243,78 @@ module _ (v : View) (sound : SoundRequest v) (counted : length (v .demands) ≡ 
   empty-none a f =
       record { orders-met = f .taken-in; stopped = stopped-used a (f .taken-in) (f .stopped); none-met = f .none-within }
 
-  -- whatever the outcome, its promise is kept
-  kept : (a : theory.Answer) (o : theory.Outcome) → promises.Promise P (v .band .slots) (boundOf v) limit [] todo a o →
-      Promised v limit (answerTold a) (startsShown (v .demandCount) (a .best)) (orderShown (a .best)) (outcomeTold o)
-  unfolding promises.Promise Promised outcomeTold
-  kept a (theory.finished e) f = finished-best a e f (startsShown (v .demandCount) (a .best)) (orderShown (a .best)) refl refl
-  kept a theory.nothing-fits f = nothing-none a f
-  kept a (theory.unfinished e) f = unfinished-best a e f (startsShown (v .demandCount) (a .best)) (orderShown (a .best)) refl refl
-  kept a theory.unfinished-empty f = empty-none a f
+  -- an order shown is as long as there are demands
+  order-long : (e : ℕ) (starts order : List ℕ) → PlanShown v e starts order → length order ≡ v .demandCount
+  unfolding OrderOf
+  order-long e starts order shown = arrange-length order todo (shown .an-order) ∙ listing-length (v .demandCount)
 
-  -- demand 3: what the search answers about a sound request holds
-  pub demand3 :
-      Promised v limit (answerTold (searched v limit))
-      (startsShown (v .demandCount) (searched v limit .best)) (orderShown (searched v limit .best))
-      (answerTold (searched v limit) .outcome)
-  unfolding searched answerTold
-  demand3 =
-      kept (searched v limit) (searched v limit .outcome)
-      (search-promise P (v .band .slots) (boundOf v) limit [] todo (grounds-of v sound counted))
+  module _ (starts order : List ℕ) where
+    -- what holds of an answer and the buffers after it, by outcome
+    unfoldable Kept : theory.Answer → Outcome → Type 0
+    Kept a o =
+        Promised v limit (answerTold a) (take (v .demandCount) (startsKept (v .demandCount) (a .best) starts))
+        (take (v .demandCount) (orderKept (a .best) order)) o
+        × RestKept (v .demandCount) o starts (startsKept (v .demandCount) (a .best) starts)
+        × RestKept (v .demandCount) o order (orderKept (a .best) order)
 
--- demand 3 of a request in memory that passed its tests
-pub demand3-request : (q : Request) → Whole q → check (view q) ≡ Sound → (limit : ℕ) →
-    Promised (view q) limit (answerTold (searched (view q) limit))
-    (startsShown (view q .demandCount) (searched (view q) limit .best)) (orderShown (searched (view q) limit .best))
-    (answerTold (searched (view q) limit) .outcome)
-demand3-request q whole sound limit =
+    -- whatever the outcome, it is kept
+    kept : (a : theory.Answer) (o : theory.Outcome) → promises.Promise P (v .band .slots) (boundOf v) limit [] todo a o → Kept a (outcomeTold o)
+    unfolding Kept promises.Promise Promised outcomeTold RestKept
+    kept a (theory.finished e) f =
+        let K : ℕ = v .demandCount in
+        let rows : List Row = fill P [] (f .order) in
+        let long = order-long e (startsOf K rows) (f .order) (finished-best a e f (startsOf K rows) (f .order) refl refl .shown) in
+        let s = starts-written K (a .best) rows (f .order) starts (f .shown .best-is) in
+        let o = order-written K (a .best) rows (f .order) order (f .shown .best-is) long in
+        (finished-best a e f (take K (startsKept K (a .best) starts)) (take K (orderKept (a .best) order)) (s .0) (o .0), s .1, o .1)
+    kept a theory.nothing-fits f =
+        (nothing-none a f, starts-unwritten (v .demandCount) (a .best) starts (f .best-is), order-unwritten (a .best) order (f .best-is))
+    kept a (theory.unfinished e) f =
+        let K : ℕ = v .demandCount in
+        let rows : List Row = fill P [] (f .order) in
+        let long = order-long e (startsOf K rows) (f .order) (unfinished-best a e f (startsOf K rows) (f .order) refl refl .shown) in
+        let s = starts-written K (a .best) rows (f .order) starts (f .shown .best-is) in
+        let o = order-written K (a .best) rows (f .order) order (f .shown .best-is) long in
+        (unfinished-best a e f (take K (startsKept K (a .best) starts)) (take K (orderKept (a .best) order)) (s .0) (o .0), s .1, o .1)
+    kept a theory.unfinished-empty f =
+        (empty-none a f, starts-unwritten (v .demandCount) (a .best) starts (f .best-is), order-unwritten (a .best) order (f .best-is))
+
+    -- what the search answers about a sound request, and what the buffers hold then, keeps its promise
+    pub sound-kept :
+        AnswerKept v limit (answerTold (searched v limit)) starts order
+        (startsKept (v .demandCount) (searched v limit .best) starts) (orderKept (searched v limit .best) order)
+    unfolding searched answerTold Kept
+    sound-kept =
+        let told = kept (searched v limit) (searched v limit .outcome)
+            (search-promise P (v .band .slots) (boundOf v) limit [] todo (grounds-of v sound counted)) in
+        record {
+          promised = told .0;
+          steps-within = search-steps P (v .band .slots) (boundOf v) limit [] todo;
+          starts-kept = told .1;
+          order-kept = told .2;
+        }
+
+-- an answer in reply: the tests passed, and it is what the search found
+answer-given : (c : Checked) (found : theory.Answer) (a : Answer) → replyTo c found ≡ reply.Answered a → (c ≡ Sound) × (answerTold found ≡ a)
+unfolding replyTo
+answer-given Sound found a e = (refl, cc)
+answer-given (Refused why) found a e = absurd (let z : _≡_ {A = ℕ} 0 1 = cc in omega arith)
+
+-- demand 3: what `search` answers about a request, and what it leaves in the two buffers, keeps its promise, whatever the request, the
+-- limit and the buffers were
+pub demand3 : (q : Request) → Whole q → (limit : ℕ) (starts order : List ℕ) (a : Answer) →
+    searchReply (view q) limit (length starts) (length order) ≡ reply.Answered a →
+    AnswerKept (view q) limit a starts order (startsAfter (view q) limit starts order) (orderAfter (view q) limit starts order)
+unfolding searchReply startsAfter orderAfter unlessRefused
+demand3 q whole limit starts order a e =
+    let v : View = view q in
+    let c : Checked = checkSearch v (length starts) (length order) in
+    let (passed, same) = answer-given c (searched v limit) a e in
+    let sound : check v ≡ Sound = passed-searchable v (length starts) (length order) passed .sound in
     let limits = checked-limits q whole sound in
-    demand3 (view q) (check-sound (view q) (whole-counted q whole) sound) (limits .demands-there) (limits .routes-there) limit
+    let kept = sound-kept v (check-sound v (whole-counted q whole) sound) (limits .demands-there) (limits .routes-there) limit starts order in
+    subst (λ (x : Checked). AnswerKept v limit a starts order
+        (unlessRefused x starts (startsKept (v .demandCount) (searched v limit .best) starts))
+        (unlessRefused x order (orderKept (searched v limit .best) order))) (sym passed)
+    (subst (λ (b : Answer). AnswerKept v limit b starts order
+        (startsKept (v .demandCount) (searched v limit .best) starts) (orderKept (searched v limit .best) order)) same kept)

@@ -205,3 +205,20 @@ pub same-search : (v : View) (limit : ℕ) (starts order : List ℕ) (a a′ : S
     a′ ≡ searchReply v limit (length starts) (length order) → s′ ≡ startsAfter v limit starts order → o′ ≡ orderAfter v limit starts order →
     (a ≡ a′) × (s ≡ s′) × (o ≡ o′)
 same-search v limit starts order a a′ s s′ o o′ h k l h′ k′ l′ = (h ∙ sym h′, k ∙ sym k′, l ∙ sym l′)
+
+-- a refusal in reply leaves a buffer as it was
+unless-answered : (c : Checked) (a : theory.Answer) (why : Refusal) (before after : List ℕ) → replyTo c a ≡ reply.Refused why →
+    unlessRefused c before after ≡ before
+unfolding replyTo unlessRefused
+unless-answered (Refused why′) a why before after e = refl
+unless-answered Sound a why before after e = absurd (let z : _≡_ {A = ℕ} 0 1 = cc in omega arith)
+
+-- a search that is refused leaves both buffers as they were
+pub search-refused-keeps : (v : View) (limit : ℕ) (starts order : List ℕ) (why : Refusal) →
+    searchReply v limit (length starts) (length order) ≡ reply.Refused why →
+    (startsAfter v limit starts order ≡ starts) × (orderAfter v limit starts order ≡ order)
+unfolding searchReply startsAfter orderAfter
+search-refused-keeps v limit starts order why e =
+    let c : Checked = checkSearch v (length starts) (length order) in
+    let a : theory.Answer = searched v limit in
+    (unless-answered c a why starts (startsKept (v .demandCount) (a .best) starts) e, unless-answered c a why order (orderKept (a .best) order) e)
