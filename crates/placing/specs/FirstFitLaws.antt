@@ -117,3 +117,17 @@ pub same-first-fit : (v : View) (order starts : List ℕ) (a a′ : PlacedReply)
     a ≡ firstFitReply v order starts → b ≡ firstFitStarts v order starts → a′ ≡ firstFitReply v order starts → b′ ≡ firstFitStarts v order starts →
     (a ≡ a′) × (b ≡ b′)
 same-first-fit v order starts a a′ b b′ h k h′ k′ = (h ∙ sym h′, k ∙ sym k′)
+
+-- a refusal in reply, by a test or by the fitting, leaves the starts
+kept-by : (c : Checked) (P : Problem) (out : Fitted) (K : ℕ) (starts : List ℕ) (why : Refusal) →
+    placedAfter c (fittedReply P out) ≡ placed-reply.Refused why → startsAfter c (fittedStarts K out starts) starts ≡ starts
+unfolding placedAfter startsAfter
+kept-by checked.Sound P out K starts why e = sym (refusal-keeps P out why K starts (sym e))
+kept-by (checked.Refused why′) P out K starts why e = refl
+
+-- first fit that is refused leaves the buffer as it was
+pub first-fit-refused-keeps : (v : View) (order starts : List ℕ) (why : Refusal) → firstFitReply v order starts ≡ placed-reply.Refused why →
+    firstFitStarts v order starts ≡ starts
+unfolding firstFitReply firstFitStarts
+first-fit-refused-keeps v order starts why e =
+    kept-by (checkFirstFit v order starts) (problemOf v) (fitted v order) (v .demandCount) starts why e

@@ -25,4 +25,6 @@ pub mod FirstFitLaws
 pub mod LowestFree
 pub mod LowestFreeLaws
 pub mod PromiseLaws
+pub mod Suffices
+pub mod SufficesLaws
 pub mod PlacingExamples

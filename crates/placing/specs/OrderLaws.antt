@@ -3,7 +3,7 @@ use Prim.Native.Nat.{ℕ, zero, suc, _+_, _≤_, _<_}
 use mathlib.Core.Bool.{Bool, true, false, cond, or-true}
 use mathlib.Core.List.{List, [], _∷_, _++_, List·Memᴰ, List·Memᴰ·head, List·Memᴰ·tail, List·Memᴰ·cases-cons, List·Memᴰ·not-nil}
 use mathlib.Core.Logic.{⊎-elim}
-use mathlib.Core.Path.{_≡_, refl, sym, ap, _∙_}
+use mathlib.Core.Path.{_≡_, refl, sym, ap, subst, _∙_}
 use native.Mathlib.Omega.{arith}
 use native.Mathlib.Numerals.{add-one}
 use lib.Dec.{leb, eqb}
@@ -14,10 +14,10 @@ use Rattle.refusal.specs.declared.Refusal.{Refusal}
 use Rattle.refusal.specs.declared.Refusal.the-variants.{NotAnOrder}
 use Rattle.theory.specs.TestLaws.{by-test}
 use Rattle.theory.specs.Arrange.{Arrange}
-use Rattle.theory.specs.ArrangeLaws.{no-repeats-with, arrange-from}
+use Rattle.theory.specs.ArrangeLaws.{no-repeats-first, no-repeats-rest, no-repeats-with, arrange-from, arrange-length, arrange-mem, arrange-no-repeats}
 use Rattle.theory.specs.Earlier.{NoRepeats, Chained}
 use Rattle.theory.specs.Orders.{listing}
-use Rattle.theory.specs.ListingLaws.{listing-mem, listing-length}
+use Rattle.theory.specs.ListingLaws.{listing-mem, listing-below, listing-length, listing-no-repeats}
 use Rattle.request.specs.declared.Checked.the-variants as checked
 use Rattle.request.specs.Check.{then, has}
 use Rattle.request.specs.CheckLaws.{then-sound, then-refused, first-sound, next-sound}
@@ -163,3 +163,30 @@ pub order-positions : (K : ℕ) (order : List ℕ) → checkOrder K order ≡ ch
 unfolding checkOrder
 order-positions K order sound m h =
     entries-new K [] 0 order (next-sound (checkLength K order) (checkEntries K [] 0 order) sound) (getD order m 0) (getD-mem order m h) .0
+
+-- entries that are listing positions, none of which stood before or stands twice, pass
+entries-right : (K : ℕ) (earlier : List ℕ) (k : ℕ) (order : List ℕ) →
+    ((j : ℕ) → List·Memᴰ j order → (j < K) × (has j earlier ≡ false)) → NoRepeats order → checkEntries K earlier k order ≡ checked.Sound
+unfolding checkEntries wrongEntry
+entries-right K earlier k [] new once = refl
+entries-right K earlier k (i ∷ order) new once =
+    let first = new i (List·Memᴰ·head refl) in
+    then-sound (cond (wrongEntry K earlier i) (checked.Refused (NotAnOrder k)) checked.Sound) (checkEntries K (earlier ++ (i ∷ [])) (k + 1) order)
+    (ap (λ (b : Bool). cond b (checked.Refused (NotAnOrder k)) checked.Sound)
+    (neither (leb K i) (has i earlier) (lt-leb K i (first .0)) (first .1)))
+    ∙ entries-right K (earlier ++ (i ∷ [])) (k + 1) order
+    (λ j m.
+    let later = new j (List·Memᴰ·tail m) in (
+      later .0,
+      has-append j earlier i ∙ neither (has j earlier) (eqb j i) (later .1)
+          (ne-eqb j i (λ (e : j ≡ i). no-repeats-first i order once (subst (λ (n : ℕ). List·Memᴰ n order) e m))),
+    ))
+    (no-repeats-rest i order once)
+
+-- an order of the listing positions passes
+pub arranged-passes : (K : ℕ) (order : List ℕ) → Arrange order (listing K) → checkOrder K order ≡ checked.Sound
+unfolding has
+arranged-passes K order listed =
+    order-entries K order (arrange-length order (listing K) listed ∙ listing-length K)
+    ∙ entries-right K [] 0 order (λ j m. (listing-below K j (arrange-mem order (listing K) listed j m), refl))
+    (arrange-no-repeats order (listing K) listed (listing-no-repeats K))

@@ -157,7 +157,7 @@ module _ (v : View) (order starts : List ℕ) (tested : checkFirstFit v order st
         fitted-writes v order starts tested ∙ ap (λ (o : Fitted). fittedStarts (v .demandCount) o starts) out
 
     -- the start written for a demand is the one that the rows give it
-    start-is : (j : ℕ) → j < v .demandCount → startAt (firstFitStarts v order starts) j ≡ startIn (fill (problemOf v) [] order) j
+    pub start-is : (j : ℕ) → j < v .demandCount → startAt (firstFitStarts v order starts) j ≡ startIn (fill (problemOf v) [] order) j
     unfolding startAt startsOf
     start-is j h =
         let K : ℕ = v .demandCount in

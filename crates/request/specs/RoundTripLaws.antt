@@ -17,7 +17,7 @@ use Rattle.request.specs.declared.Request.{Request}
 use Rattle.request.specs.declared.Reading.{Reading}
 use Rattle.request.specs.declared.Checked.the-variants.{Sound, Refused}
 use Rattle.request.specs.declared.Written.{Written}
-use Rattle.request.specs.declared.Written.the-variants.{Wrote}
+use Rattle.request.specs.declared.Written.the-variants.{Wrote, Refused as Unwritten}
 use Rattle.request.specs.View.{DemandView, View, view, demandAt}
 use Rattle.request.specs.Check.{then, checkBand, checkSomeLink, checkLinks, checkLinkCount, checkDemands, checkDemandCount, check}
 use Rattle.request.specs.CheckLaws.{next-sound, band-passes, some-link, few-links, few-demands}
@@ -31,7 +31,7 @@ use Rattle.request.specs.Reading.{FileReading, refused, accepted, must, 
 use Rattle.request.specs.ReadingLaws.{by-check, field-sound, band-holds, band-long, band-sound}
 use Rattle.request.specs.FileLaws.{file-links}
 use Rattle.request.specs.Packing.{emptyRequest, packReading}
-use Rattle.request.specs.Writing.{written, outAfter}
+use Rattle.request.specs.Writing.{written, filled, outAfter}
 use Rattle.request.specs.OutLaws.{wrote-answer, wrote-front, wrote-says}
 use Rattle.request.specs.RoundTrip.{Bytes, Idents16, Accepted}
 use Rattle.request.specs.FieldLaws.{band-there, band-written}
@@ -218,3 +218,8 @@ same-writing q q′ out r r′ after after′ same e e′ f f′ =
 -- two empty requests are equal
 pub same-empty : (q q′ : Request) → q ≡ emptyRequest → q′ ≡ emptyRequest → q ≡ q′
 same-empty q q′ e e′ = e ∙ sym e′
+
+-- a request that is not written leaves the buffer as it was
+pub write-refused-keeps : (v : View) (out : List ℕ) (why : Refusal) → written v out ≡ Unwritten why → outAfter v out ≡ out
+unfolding outAfter filled
+write-refused-keeps v out why e = ap (λ (x : Written). filled x (encode v) out) e

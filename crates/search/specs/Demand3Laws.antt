@@ -286,7 +286,7 @@ module _ (v : View) (sound : SoundRequest v) (counted : length (v .demands) ≡ 
     unfolding searched answerTold Kept
     sound-kept =
         let told = kept (searched v limit) (searched v limit .outcome)
-            (search-promise P (v .band .slots) (boundOf v) limit [] todo (grounds-of v sound counted)) in
+        (search-promise P (v .band .slots) (boundOf v) limit [] todo (grounds-of v sound counted)) in
         record {
           promised = told .0;
           steps-within = search-steps P (v .band .slots) (boundOf v) limit [] todo;
@@ -314,7 +314,7 @@ demand3 q whole limit starts order a e =
     let limits = checked-limits q whole sound in
     let kept = sound-kept v (check-sound v (whole-counted q whole) sound) (limits .demands-there) (limits .routes-there) limit starts order in
     subst (λ (x : Checked). AnswerKept v limit a starts order
-        (unlessRefused x starts (startsKept (v .demandCount) (searched v limit .best) starts))
-        (unlessRefused x order (orderKept (searched v limit .best) order))) (sym passed)
+    (unlessRefused x starts (startsKept (v .demandCount) (searched v limit .best) starts))
+    (unlessRefused x order (orderKept (searched v limit .best) order))) (sym passed)
     (subst (λ (b : Answer). AnswerKept v limit b starts order
-        (startsKept (v .demandCount) (searched v limit .best) starts) (orderKept (searched v limit .best) order)) same kept)
+    (startsKept (v .demandCount) (searched v limit .best) starts) (orderKept (searched v limit .best) order)) same kept)
