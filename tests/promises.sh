@@ -51,10 +51,10 @@ rows_of_the_table() {
 
 # The statement of a theorem: from its name to the line before its first clause.
 statement_of() {
-    cat crates/"$1"/specs/*Laws.antt | awk -v name="$2" '
+    awk -v name="$2" '
         $0 ~ "^ *pub " name " :" { on = 1 }
         on && ($0 ~ "^ *" name " " || $0 ~ "^ *unfolding ") { exit }
-        on'
+        on' crates/"$1"/specs/*Laws.antt
 }
 
 # A word that stands in the text on standard input, whole.
