@@ -176,3 +176,9 @@ pub same-read : (v : View) (s out : List ℕ) (a a′ : CheckReply) (b b′ : Li
     a′ ≡ planReply v (readPlanFile v s (length out)) → b′ ≡ startsAfter (readPlanFile v s (length out)) out →
     (a ≡ a′) × (b ≡ b′)
 same-read v s out a a′ b b′ h k h′ k′ = (h ∙ sym h′, k ∙ sym k′)
+
+-- a plan file that is refused leaves the buffer as it was
+pub read-refused-keeps : (v : View) (x : PlanReading) (out : List ℕ) (why : Refusal) → planReply v x ≡ Rejected why → startsAfter x out ≡ out
+unfolding planReply startsAfter
+read-refused-keeps v (refused why′) out why e = refl
+read-refused-keeps v (accepted starts) out why e = absurd (let z : _≡_ {A = ℕ} 0 1 = cc in omega arith)

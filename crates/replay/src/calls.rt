@@ -12,7 +12,7 @@ mod write_plan;
 mod write_request;
 
 // Makes the call of this number. False, and nothing printed, where there is no such call or the body is not one of it.
-pub fn make_call(op: u8, body: &[u8]) -> bool {
+pub(crate) fn make_call(op: u8, body: &[u8]) -> bool {
     match op {
         0x01 => read_request::answer(body),
         0x02 => check_request::answer(body),

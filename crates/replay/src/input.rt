@@ -5,7 +5,7 @@ ghost use Prim.Native.Nat.{_≤_};
 
 // Reads a body of this length. The room keeps the front of it; what it does not hold is read and forgotten. False where the input
 // ends before the body does.
-pub fn read_body(length: usize, room: &mut [u8]) -> bool {
+pub(crate) fn read_body(length: usize, room: &mut [u8]) -> bool {
     let kept = held_bytes(length, room);
     if io::read_full(STDIN_FILENO, &mut room[..kept]) < kept {
         return false;

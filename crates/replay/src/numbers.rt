@@ -5,7 +5,7 @@ ghost use Prim.Native.Nat.{_+_, _*_, min};
 ghost use lib.ListN.{getD};
 
 // The position `count` bytes on.
-pub fn next(at: usize, count: usize) -> usize
+pub(crate) fn next(at: usize, count: usize) -> usize
     ensures { λ r. ⌜ r ≡ min (at + count) 18446744073709551615 ⌝ }
 {
     if count <= usize::MAX - at {
@@ -15,20 +15,20 @@ pub fn next(at: usize, count: usize) -> usize
     }
 }
 
-pub fn byte_at(body: &[u8], at: usize) -> u8 {
+pub(crate) fn byte_at(body: &[u8], at: usize) -> u8 {
     if at < body.len() { body[at] } else { 0 }
 }
 
-pub fn two_at(body: &[u8], at: usize) -> u16 {
+pub(crate) fn two_at(body: &[u8], at: usize) -> u16 {
     byte_at(body, at) as u16 * 256 + byte_at(body, next(at, 1)) as u16
 }
 
-pub fn four_at(body: &[u8], at: usize) -> u32 {
+pub(crate) fn four_at(body: &[u8], at: usize) -> u32 {
     two_at(body, at) as u32 * 65536 + two_at(body, next(at, 2)) as u32
 }
 
 // The number whose two's complement these 16 bits are.
-pub fn signed_two(bits: u16) -> i16 {
+pub(crate) fn signed_two(bits: u16) -> i16 {
     if bits < 32768 {
         bits as i16
     } else {
@@ -37,7 +37,7 @@ pub fn signed_two(bits: u16) -> i16 {
 }
 
 // The number whose two's complement these 32 bits are.
-pub fn signed_four(bits: u32) -> i32 {
+pub(crate) fn signed_four(bits: u32) -> i32 {
     if bits < 2147483648 {
         bits as i32
     } else {
@@ -46,7 +46,7 @@ pub fn signed_four(bits: u32) -> i32 {
 }
 
 // Entries of two bytes each, from a position on.
-pub fn read_entries(body: &[u8], at: usize, entries: &mut [u16]) {
+pub(crate) fn read_entries(body: &[u8], at: usize, entries: &mut [u16]) {
     let mut from = at;
     let mut i = 0;
     while i < entries.len() {

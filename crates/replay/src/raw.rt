@@ -26,7 +26,7 @@ struct RawDemands {
     end: usize,
 }
 
-pub fn raw_at(body: &[u8], at: usize) -> Raw {
+pub(crate) fn raw_at(body: &[u8], at: usize) -> Raw {
     let band = band_at(body, at);
     let counted = next(at, 5);
     let link_count = two_at(body, counted) as usize;
@@ -49,7 +49,7 @@ pub fn raw_at(body: &[u8], at: usize) -> Raw {
     }
 }
 
-pub fn band_at(body: &[u8], at: usize) -> Band {
+pub(crate) fn band_at(body: &[u8], at: usize) -> Band {
     let n0 = signed_two(two_at(body, at));
     let slots = two_at(body, next(at, 2));
     let guard = byte_at(body, next(at, 4));

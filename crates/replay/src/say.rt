@@ -9,18 +9,18 @@ ghost use mathlib.Core.Bool.{true};
 ghost use lib.IntN.{pos, natAbs};
 ghost use lib.Signed.{ltZ};
 
-pub fn words(text: &[u8]) {
+pub(crate) fn words(text: &[u8]) {
     io::write_all(STDOUT_FILENO, text);
 }
 
 // A space and a number.
-pub fn number(n: u64) {
+pub(crate) fn number(n: u64) {
     words(b" ");
     io::print_decimal(STDOUT_FILENO, n);
 }
 
 // A space and a signed number.
-pub fn signed(n: i64) {
+pub(crate) fn signed(n: i64) {
     if n < 0 {
         words(b" -");
         io::print_decimal(STDOUT_FILENO, below_zero(n));
@@ -37,14 +37,14 @@ fn below_zero(n: i64) -> u64
     (-1 - n) as u64 + 1
 }
 
-pub fn refusal(why: Refusal) {
+pub(crate) fn refusal(why: Refusal) {
     words(b"refused");
     number(why.number() as u64);
     number(why.place() as u64);
 }
 
 // How many bytes were written, or why none.
-pub fn written(written: Written) {
+pub(crate) fn written(written: Written) {
     match written {
         Written::Wrote(count) => {
             words(b"wrote");
@@ -55,7 +55,7 @@ pub fn written(written: Written) {
 }
 
 // A word and the end of a plan that is accepted, or why it is not.
-pub fn checked(word: &[u8], reply: CheckReply) {
+pub(crate) fn checked(word: &[u8], reply: CheckReply) {
     match reply {
         CheckReply::Accepted(end) => {
             words(word);
@@ -66,7 +66,7 @@ pub fn checked(word: &[u8], reply: CheckReply) {
 }
 
 // A space and a buffer of bytes in hexadecimal, `-` for an empty one.
-pub fn bytes(buffer: &[u8]) {
+pub(crate) fn bytes(buffer: &[u8]) {
     words(b" ");
     if buffer.len() == 0 {
         words(b"-");
@@ -89,7 +89,7 @@ fn digit(n: u8) -> u8
 }
 
 // A space and a buffer of entries, joined by commas, `-` for an empty one.
-pub fn entries(buffer: &[u16]) {
+pub(crate) fn entries(buffer: &[u16]) {
     words(b" ");
     if buffer.len() == 0 {
         words(b"-");
@@ -109,6 +109,6 @@ fn entry(n: u16, i: usize) {
 }
 
 // The end of a line.
-pub fn end() {
+pub(crate) fn end() {
     words(b"\n");
 }

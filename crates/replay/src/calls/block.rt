@@ -6,7 +6,7 @@ use crate::raw::band_at;
 use crate::say;
 use grid::BlockReply;
 
-pub fn answer(body: &[u8]) -> bool {
+pub(crate) fn answer(body: &[u8]) -> bool {
     if body.len() != 11 {
         return false;
     }

@@ -3,7 +3,7 @@ use crate::raw::raw_at;
 use crate::say;
 use request::Checked;
 
-pub fn answer(body: &[u8]) -> bool {
+pub(crate) fn answer(body: &[u8]) -> bool {
     let raw = raw_at(body, 0);
     if raw.end != body.len() {
         return false;

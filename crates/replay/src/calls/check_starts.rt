@@ -8,7 +8,7 @@ use crate::raw::raw_at;
 use crate::say;
 use request::Request;
 
-pub fn answer(body: &[u8]) -> bool {
+pub(crate) fn answer(body: &[u8]) -> bool {
     let count = two_at(body, 0) as usize;
     let raw = raw_at(body, next(next(2, count), count));
     if raw.end != body.len() {

@@ -11,7 +11,7 @@ use crate::say;
 use placing::PlacedReply;
 use request::Request;
 
-pub fn answer(body: &[u8]) -> bool {
+pub(crate) fn answer(body: &[u8]) -> bool {
     let room = two_at(body, 0) as usize;
     let count = two_at(body, 2) as usize;
     let raw = raw_at(body, next(next(4, count), count));

@@ -5,7 +5,7 @@ use crate::say;
 use grid::FrequencyReply;
 ghost use mathlib.Core.Path.{_≡_};
 
-pub fn answer(body: &[u8]) -> bool {
+pub(crate) fn answer(body: &[u8]) -> bool {
     if body.len() != 9 {
         return false;
     }

@@ -8,7 +8,7 @@ use crate::raw::raw_at;
 use crate::say;
 use request::Request;
 
-pub fn answer(body: &[u8]) -> bool {
+pub(crate) fn answer(body: &[u8]) -> bool {
     let room = two_at(body, 0) as usize;
     let file_end = next(4, two_at(body, 2) as usize);
     if file_end > body.len() {

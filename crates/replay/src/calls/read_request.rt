@@ -6,7 +6,7 @@ use request::Checked;
 use request::Request;
 use request::Written;
 
-pub fn answer(body: &[u8]) -> bool {
+pub(crate) fn answer(body: &[u8]) -> bool {
     let reading = request::read_request(body);
     let verdict = reading.verdict;
     match verdict {

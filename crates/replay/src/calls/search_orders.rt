@@ -11,7 +11,7 @@ use search::Answer;
 use search::Outcome;
 use search::SearchReply;
 
-pub fn answer(body: &[u8]) -> bool {
+pub(crate) fn answer(body: &[u8]) -> bool {
     let limit = four_at(body, 0);
     let starts_room = two_at(body, 4) as usize;
     let order_room = two_at(body, 6) as usize;

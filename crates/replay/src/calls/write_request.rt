@@ -7,7 +7,7 @@ use crate::raw::raw_at;
 use crate::say;
 use request::Request;
 
-pub fn answer(body: &[u8]) -> bool {
+pub(crate) fn answer(body: &[u8]) -> bool {
     let room = two_at(body, 0) as usize;
     let raw = raw_at(body, 2);
     if raw.end != body.len() {
