@@ -3,9 +3,10 @@ use crate::LightplanFrequency;
 use grid::Band;
 use grid::FrequencyReply;
 use grid::to_frequency;
-use refusal::Refusal;
+ghost use mathlib.Core.Path.{_≡_};
+ghost use Rattle.host.specs.Host.{frequencyTold, frequencyEntry};
 
-// Where the block of this start and width stands in the band of these three numbers: 4, 9, 17, each at place 0.
+// Where the block of this start and width stands, in the band of these three numbers: 4, 9, 17, each at place 0.
 #[no_mangle]
 pub extern "C" fn lightplan_frequency(
     n0: i16,
@@ -13,8 +14,16 @@ pub extern "C" fn lightplan_frequency(
     guard: u8,
     start: u16,
     width: u16,
-) -> LightplanFrequency {
-    let reply = to_frequency(Band { n0, slots, guard }, start, width);
+) -> LightplanFrequency
+    ensures { λ r. ⌜ r ≡ frequencyEntry n0 slots guard start width ⌝ }
+{
+    frequency_told(to_frequency(Band { n0, slots, guard }, start, width))
+}
+
+// The numbers of a frequency, or the refusal.
+fn frequency_told(reply: FrequencyReply) -> LightplanFrequency
+    ensures { λ r. ⌜ r ≡ frequencyTold reply ⌝ }
+{
     match reply {
         FrequencyReply::Centred(centre) => LightplanFrequency {
             refusal: 0,
@@ -23,16 +32,12 @@ pub extern "C" fn lightplan_frequency(
             m: centre.m,
             mhz: centre.mhz,
         },
-        FrequencyReply::Refused(why) => frequency_refused(why),
-    }
-}
-
-fn frequency_refused(why: Refusal) -> LightplanFrequency {
-    LightplanFrequency {
-        refusal: why.number(),
-        place: why.place(),
-        n: 0,
-        m: 0,
-        mhz: 0,
+        FrequencyReply::Refused(why) => LightplanFrequency {
+            refusal: why.number(),
+            place: why.place(),
+            n: 0,
+            m: 0,
+            mhz: 0,
+        },
     }
 }

@@ -1,5 +1,14 @@
 // The library's calls for programs in C: files and plans as bytes, answers as structs of numbers. An answer has the refusal 0 and
 // the place 0. A refusal has its number, 1 to 20, and its place; every other field is then 0, and every lent buffer as it was.
+use placing::BoundReply;
+use placing::bound;
+use request::Request;
+ghost use mathlib.Core.Path.{_≡_};
+ghost use Rattle.request.specs.declared.Checked.the-variants.{Sound};
+ghost use Rattle.request.specs.View.{view};
+ghost use Rattle.request.specs.Check.{check};
+ghost use Rattle.placing.specs.Placing.{boundOf};
+
 mod checking;
 mod frequency;
 mod reading;
@@ -55,4 +64,15 @@ pub struct LightplanFrequency {
     pub n: i32,
     pub m: u16,
     pub mhz: i64,
+}
+
+// The bound of a request that was read from a file: such a request is sound.
+fn sound_bound(request: Request) -> u32
+    requires { ⌜ check (view request) ≡ Sound ⌝ }
+    ensures { λ r. ⌜ r ≡ boundOf (view request) ⌝ }
+{
+    match bound(request) {
+        BoundReply::Bound(need) => need,
+        BoundReply::Refused(_) => 0,
+    }
 }

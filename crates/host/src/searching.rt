@@ -3,20 +3,27 @@ use crate::LightplanAnswer;
 use refusal::Refusal;
 use request::Checked;
 use request::read_request;
-use search::Answer;
 use search::Outcome;
 use search::SearchReply;
 use search::search;
+ghost use mathlib.Core.Path.{_≡_};
+ghost use lib.ListN.{length};
+ghost use Rattle.request.specs.Reading.{readFile};
+ghost use Rattle.host.specs.Host.{outcomeNumber, outcomeEnd, answerRefused, searchTold, answerEntry, startsSearched, orderSearched};
 
 // Searches the request in a file with at most `limit` steps. With a plan `starts` gets its start of each demand by listing
-// position, and `order` the order that gave it. The reader's refusals at their offsets, then 11 and 10.
+// position, and `order` the order that gave it. The reader's refusals at their offsets come first, then 11 and 10.
 #[no_mangle]
 pub extern "C" fn lightplan_search(
     file: &[u8],
     limit: u32,
     starts: &mut [u16],
     order: &mut [u16],
-) -> LightplanAnswer {
+) -> LightplanAnswer
+    ensures answer { λ r. ⌜ r ≡ answerEntry (readFile (now (file .entry))) limit (length (now (starts .entry))) (length (now (order .entry))) ⌝ }
+    ensures starts { λ _. ⌜ now (starts .exit) ≡ startsSearched (readFile (now (file .entry))) limit (now (starts .entry)) (now (order .entry)) ⌝ }
+    ensures order { λ _. ⌜ now (order .exit) ≡ orderSearched (readFile (now (file .entry))) limit (now (starts .entry)) (now (order .entry)) ⌝ }
+{
     let reading = read_request(file);
     let verdict = reading.verdict;
     let request = reading.request;
@@ -24,13 +31,12 @@ pub extern "C" fn lightplan_search(
         return answer_refused(why);
     }
     let reply = search(request, limit, starts, order);
-    match reply {
-        SearchReply::Answered(answer) => answer_told(answer),
-        SearchReply::Refused(why) => answer_refused(why),
-    }
+    search_told(reply)
 }
 
-fn answer_refused(why: Refusal) -> LightplanAnswer {
+fn answer_refused(why: Refusal) -> LightplanAnswer
+    ensures { λ r. ⌜ r ≡ answerRefused why ⌝ }
+{
     LightplanAnswer {
         refusal: why.number(),
         place: why.place(),
@@ -43,22 +49,32 @@ fn answer_refused(why: Refusal) -> LightplanAnswer {
     }
 }
 
-fn answer_told(answer: Answer) -> LightplanAnswer {
-    let outcome = answer.outcome;
-    LightplanAnswer {
-        refusal: 0,
-        place: 0,
-        outcome: outcome_number(outcome),
-        end: outcome_end(outcome),
-        bound: answer.bound,
-        steps: answer.steps,
-        reached: answer.reached,
-        ruled: answer.ruled,
+// The numbers of an answer, or the refusal.
+fn search_told(reply: SearchReply) -> LightplanAnswer
+    ensures { λ r. ⌜ r ≡ searchTold reply ⌝ }
+{
+    match reply {
+        SearchReply::Answered(answer) => {
+            let outcome = answer.outcome;
+            LightplanAnswer {
+                refusal: 0,
+                place: 0,
+                outcome: outcome_number(outcome),
+                end: outcome_end(outcome),
+                bound: answer.bound,
+                steps: answer.steps,
+                reached: answer.reached,
+                ruled: answer.ruled,
+            }
+        }
+        SearchReply::Refused(why) => answer_refused(why),
     }
 }
 
 // Which of the four outcomes it is.
-fn outcome_number(outcome: Outcome) -> u8 {
+fn outcome_number(outcome: Outcome) -> u8
+    ensures { λ r. ⌜ r ≡ outcomeNumber outcome ⌝ }
+{
     match outcome {
         Outcome::Finished(_) => 0,
         Outcome::NothingFits => 1,
@@ -68,7 +84,9 @@ fn outcome_number(outcome: Outcome) -> u8 {
 }
 
 // The end of the plan, 0 without one.
-fn outcome_end(outcome: Outcome) -> u16 {
+fn outcome_end(outcome: Outcome) -> u16
+    ensures { λ r. ⌜ r ≡ outcomeEnd outcome ⌝ }
+{
     match outcome {
         Outcome::Finished(end) => end,
         Outcome::NothingFits => 0,

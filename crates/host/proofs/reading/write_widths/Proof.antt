@@ -1,21 +1,27 @@
 -- `host::reading::write_widths` meets its contract. Assumes nothing.
-use Prim.Native.Nat.{ℕ, _≤_, _-_}
-use mathlib.Core.Path.{_≡_, refl}
+use Prim.Native.Nat.{ℕ, _≤_, _-_, min}
+use mathlib.Core.List.{List}
+use mathlib.Core.Path.{_≡_, refl, sym, ap, _∙_}
 use native.Mathlib.Omega.{arith}
-use lib.ListN.{length, length-set}
+use lib.ListN.{length, take, set, getD, length-set}
 use borrow.Author.Needs.{needs}
-use Rattle.request.specs.ViewLaws.{mapped-length}
+use Rattle.request.specs.View.{DemandView, view, viewDemand}
+use Rattle.request.specs.ViewLaws.{demands-shown, demand-shown, mapped-length}
+use Rattle.search.specs.Reply.{over}
+use Rattle.search.specs.ReplyLaws.{over-none}
+use Rattle.host.specs.Host.{widths}
+use Rattle.host.specs.HostLaws.{column-more, column-all}
 use Rattle.host.proofs.reading.write_widths.Statement.{statement}
 use Rattle.host.proofs.reading.write_widths.Tie as tie
 
 abbrev Inv-loop : tie.InvT-loop
-Inv-loop out₀ request count k₀ out k = (k ≤ count) × (length out ≡ length out₀)
+Inv-loop out₀ request count k₀ out k = (k ≤ count) × (length out ≡ length out₀) × (out ≡ over (take k (widths (view request .demands))) out₀)
 
 abbrev μ-loop : tie.MeasureT-loop
 μ-loop out₀ request count k₀ out k = count - k
 
 loop-holds : tie.Need-loop-holds Inv-loop μ-loop
-loop-holds c = (omega arith, refl)
+loop-holds c = (omega arith, refl, over-none (widths (view (c .args .t1) .demands)) (c .args .out .now))
 
 mul-demand : tie.Need-mul-demand Inv-loop μ-loop
 mul-demand c = search needs
@@ -36,13 +42,34 @@ loop-less : tie.Need-loop-less Inv-loop μ-loop
 loop-less c = omega arith
 
 loop-again : tie.Need-loop-again Inv-loop μ-loop
-loop-again c = (omega arith, simp length-set (c .before .before .loop .inv .1))
+unfolding viewDemand widths
+loop-again c =
+    let request = c .before .before .before .args .t1 in
+    let out = c .before .before .before .args .out .now in
+    let demands = view request .demands in
+    let k = c .before .before .loop .k in
+    let inv = c .before .before .loop .inv in
+    let all : _≡_ {A = ℕ} (length (request .demands)) 200 = search (mapped-length, needs) in
+    let shown : length demands ≡ min (request .«demand_count») (length (request .demands)) = demands-shown request in
+    let here = ap (λ (d : DemandView). d .width) (demand-shown request k (omega arith)) in (
+      omega arith,
+      simp length-set (inv .1),
+      ap (λ (l : List ℕ). set l k (getD (request .demands) k _ .width)) (inv .2)
+          ∙ (ap (λ (x : ℕ). set (over (take k (widths demands)) out) k x) (sym here)
+          ∙ column-more (λ (d : DemandView). d .width) demands out k (omega arith) (omega arith)),
+    )
 
 same-length : tie.Need-same-length Inv-loop μ-loop
 same-length c = c .before .loop .inv .1
 
 returns : tie.Need-returns Inv-loop μ-loop
-returns c = search needs
+unfolding widths
+returns c =
+    let request = c .before .before .args .t1 in
+    let demands = view request .demands in
+    let all : _≡_ {A = ℕ} (length (request .demands)) 200 = search (mapped-length, needs) in
+    let shown : length demands ≡ min (request .«demand_count») (length (request .demands)) = demands-shown request in
+    c .before .loop .inv .2 ∙ column-all (λ (d : DemandView). d .width) demands (c .before .before .args .out .now) (c .before .loop .k) (omega arith)
 
 pub write-widths-spec : {M : Type 1} → statement M
 write-widths-spec =

@@ -1,0 +1,77 @@
+-- `host::searching::lightplan_search` meets its contract. Assumes nothing.
+use Prim.Native.Nat.{ℕ}
+use mathlib.Core.Path.{sym, ap, _∙_}
+use native.Mathlib.Omega.{arith}
+use lib.ListN.{length}
+use Rattle.request.specs.Reading.{FileReading}
+use Rattle.request.specs.RoundTrip.{Bytes}
+use Rattle.host.specs.Host.{searchTold, answerEntry, startsSearched, orderSearched}
+use Rattle.host.specs.HostLaws.{file-refused, file-accepted}
+use borrow.Author.Needs.{needs}
+use Rattle.host.proofs.searching.lightplan_search.Statement.{statement}
+use Rattle.host.proofs.searching.lightplan_search.Tie as tie
+
+read-request-requires : tie.Need-read-request-requires
+read-request-requires c κs = search needs
+
+enum-known-verdict : tie.Need-enum-known-verdict
+enum-known-verdict c = search needs
+
+answer-refused-requires : tie.Need-answer-refused-requires
+answer-refused-requires c κs = search needs
+
+returns : tie.Need-returns
+unfolding answerEntry startsSearched orderSearched
+returns c =
+    let a = c .before .before .before .before .before .before .before .before .before .args in
+    let read = file-refused (c .before .before .before .before .before .before .before .before .before .args .file .now) (c .before .before .before .before .before .read-request .result) (c .before .before .verdict .given .0 .0) (c .before .before .before .before .before .read-request .ensures) (c .before .before .verdict .given .1) in (
+      c .answer-refused .ensures ∙ ap (λ (file : FileReading). answerEntry file (a .limit) (length (a .starts .now)) (length (a .order .now))) (sym read),
+      (
+        ap (λ (file : FileReading). startsSearched file (a .limit) (a .starts .now) (a .order .now)) (sym read),
+        ap (λ (file : FileReading). orderSearched file (a .limit) (a .starts .now) (a .order .now)) (sym read),
+      ),
+    )
+
+enum-told : tie.Need-enum-told
+enum-told c = search needs
+
+search-requires : tie.Need-search-requires
+search-requires c κs = search needs
+
+search-told-requires : tie.Need-search-told-requires
+search-told-requires c κs = search needs
+
+same-length : tie.Need-same-length
+same-length c = search needs
+
+same-length-2 : tie.Need-same-length-2
+same-length-2 c = search needs
+
+returns-2 : tie.Need-returns-2
+unfolding answerEntry startsSearched orderSearched
+returns-2 c =
+    let a = c .before .before .before .before .before .before .before .before .before .before .before .before .before .before .before .args in
+    let bytes : Bytes (c .before .before .before .before .before .before .before .before .before .before .before .before .before .before .before .args .file .now) = record { each = λ (at : ℕ). omega (arith, c .before .before .before .before .before .before .before .before .before .before .before .before .before .before .shared-slice-known .given at) } in
+    let read = file-accepted (c .before .before .before .before .before .before .before .before .before .before .before .before .before .before .before .args .file .now) (c .before .before .before .before .before .before .before .before .before .before .before .read-request .result) bytes (c .before .before .before .before .before .before .before .before .before .before .before .read-request .ensures) (c .before .before .before .before .before .before .before .before .enum-told .given .1) in (
+      c .search-told .ensures ∙ (ap searchTold (c .before .before .before .before .before .search .ensures .0)
+          ∙ ap (λ (file : FileReading). answerEntry file (a .limit) (length (a .starts .now)) (length (a .order .now))) (sym read)),
+      (
+        c .before .before .before .before .before .search .ensures .1 .0 ∙ ap (λ (file : FileReading). startsSearched file (a .limit) (a .starts .now) (a .order .now)) (sym read),
+        c .before .before .before .before .before .search .ensures .1 .1 ∙ ap (λ (file : FileReading). orderSearched file (a .limit) (a .starts .now) (a .order .now)) (sym read),
+      ),
+    )
+
+pub lightplan-search-spec : {M : Type 1} → statement M
+lightplan-search-spec =
+    tie.close
+    (tie.spec
+    read-request-requires
+    enum-known-verdict
+    answer-refused-requires
+    returns
+    enum-told
+    search-requires
+    search-told-requires
+    same-length
+    same-length-2
+    returns-2)
