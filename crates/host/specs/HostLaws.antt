@@ -1,17 +1,16 @@
 -- Laws of the calls for C: what their code cites.
 use Prim.Native.Nat.{ℕ, _+_, _≤_, _<_}
 use mathlib.Core.List.{List, map}
-use mathlib.Core.Path.{_≡_, refl, sym, ap, subst, _∙_}
+use mathlib.Core.Path.{_≡_, refl, sym, ap, _∙_}
 use native.Mathlib.Omega.{arith}
 use lib.ListN.{length, take, set, length-map}
 use lib.Seq.{take-all}
 use Rattle.refusal.specs.declared.Refusal.{Refusal}
 use Rattle.refusal.specs.declared.Refusal.the-variants.{BufferShort}
-use Rattle.request.specs.declared.Checked.{Checked}
 use Rattle.request.specs.declared.Checked.the-variants.{Sound, Refused}
 use Rattle.request.specs.declared.Reading.{Reading}
 use Rattle.request.specs.View.{DemandView, View, view, demandAt, noDemand}
-use Rattle.request.specs.Check.{then, check}
+use Rattle.request.specs.Check.{then}
 use Rattle.request.specs.SoundLaws.{check-sound}
 use Rattle.request.specs.Reading.{FileReading, refused, accepted, must, readFile, idents}
 use Rattle.request.specs.Packing.{packReading}
@@ -22,7 +21,7 @@ use Rattle.search.specs.Reply as search
 use Rattle.search.specs.Reply.{over}
 use Rattle.search.specs.ReplyLaws.{over-more}
 use borrow.Author.Tests.{le-leb, lt-leb}
-use Rattle.host.specs.declared.LightplanRequest.{LightplanRequest}
+use Rattle.host.specs.Held.{Held}
 use Rattle.host.specs.Host.{requestRefused, requestTold, checkBuffers, requestAfter, requestEntry, identsAfter, widthsAfter, widths}
 
 -- ---- how a file reads
@@ -38,28 +37,22 @@ pub file-refused : (file : List ℕ) (reading : Reading) (why : Refusal) → rea
 file-refused file reading why read told =
     refused-reading (readFile file) why (sym (ap (λ (r : Reading). r .verdict) read) ∙ told)
 
--- a reading that is sound is of a file that is accepted, as the request read
+-- a reading that is sound is of a file that is accepted as the request read
 sound-reading : (file : List ℕ) (read : FileReading) → Bytes file → readFile file ≡ read → packReading read .verdict ≡ Sound →
     readFile file ≡ accepted (view (packReading (readFile file) .request))
 unfolding packReading
 sound-reading file (refused why) bytes same h = absurd (let z : _≡_ {A = ℕ} 0 1 = cc in omega arith)
 sound-reading file (accepted v) bytes same h = same ∙ ap accepted (sym (read-seen file v bytes same))
 
-pub file-accepted : (file : List ℕ) (reading : Reading) → Bytes file → reading ≡ packReading (readFile file) → reading .verdict ≡ Sound →
-    readFile file ≡ accepted (view (reading .request))
-file-accepted file reading bytes read told =
-    sound-reading file (readFile file) bytes refl (sym (ap (λ (r : Reading). r .verdict) read) ∙ told)
-    ∙ ap (λ (r : Reading). accepted (view (r .request))) (sym read)
-
--- the request of an accepted file is sound
-pub accepted-sound : (file : List ℕ) (v : View) → Bytes file → readFile file ≡ accepted v → check v ≡ Sound
-accepted-sound file v bytes read = accepted-encodes file v bytes read .sound
-
--- and has at most 200 demands
-pub accepted-few : (file : List ℕ) (v : View) → Bytes file → readFile file ≡ accepted v → v .demandCount ≤ 200
-accepted-few file v bytes read =
-    let parts = accepted-encodes file v bytes read in
-    check-sound v (parts .counted) (parts .sound) .at-most-200-demands
+pub file-held : (file : List ℕ) (reading : Reading) → Bytes file → reading ≡ packReading (readFile file) → reading .verdict ≡ Sound → Held file (reading .request)
+unfolding view
+file-held file reading bytes read told =
+    let v = view (reading .request) in
+    let accepts : readFile file ≡ accepted v
+    = sound-reading file (readFile file) bytes refl (sym (ap (λ (r : Reading). r .verdict) read) ∙ told)
+    ∙ ap (λ (r : Reading). accepted (view (r .request))) (sym read) in
+    let parts = accepted-encodes file v bytes accepts in
+    record { read = accepts; sound = parts .sound; few = check-sound v (parts .counted) (parts .sound) .at-most-200-demands }
 
 -- ---- a column of the demands, written to a buffer
 

@@ -1,15 +1,30 @@
 -- `host::searching::lightplan_search` meets its contract. Assumes nothing.
 use Prim.Native.Nat.{ℕ}
-use mathlib.Core.Path.{sym, ap, _∙_}
+use mathlib.Core.Path.{_≡_, sym, ap, _∙_}
 use native.Mathlib.Omega.{arith}
 use lib.ListN.{length}
-use Rattle.request.specs.Reading.{FileReading}
-use Rattle.request.specs.RoundTrip.{Bytes}
-use Rattle.host.specs.Host.{searchTold, answerEntry, startsSearched, orderSearched}
-use Rattle.host.specs.HostLaws.{file-refused, file-accepted}
 use borrow.Author.Needs.{needs}
+use Rattle.request.specs.Reading.{FileReading, refused, readFile}
+use Rattle.request.specs.RoundTrip.{Bytes}
+use Rattle.host.specs.Held.{Held}
+use Rattle.host.specs.Host.{searchTold, answerEntry, startsSearched, orderSearched}
+use Rattle.host.specs.HostLaws.{file-refused, file-held}
 use Rattle.host.proofs.searching.lightplan_search.Statement.{statement}
 use Rattle.host.proofs.searching.lightplan_search.Tie as tie
+
+-- the file is of bytes
+bytes : (c : tie.After-shared-slice-known) → Bytes (c .before .args .file .now)
+bytes c = record { each = λ (at : ℕ). omega (arith, c .shared-slice-known .given at) }
+
+-- where the reading is sound, the file holds the request read
+held : (c : tie.After-enum-told) → Held (c .before .before .before .before .before .before .before .args .file .now) (c .before .before .before .read-request .result .request)
+held c =
+    file-held (c .before .before .before .before .before .before .before .args .file .now) (c .before .before .before .read-request .result) (bytes (c .before .before .before .before .before .before)) (c .before .before .before .read-request .ensures) (c .enum-told .given .1)
+
+-- where it is refused, so is the file
+no-request : (c : tie.After-known-told) → readFile (c .before .before .before .before .before .before .before .before .args .file .now) ≡ refused (c .before .verdict .given .0 .0)
+no-request c =
+    file-refused (c .before .before .before .before .before .before .before .before .args .file .now) (c .before .before .before .before .read-request .result) (c .before .verdict .given .0 .0) (c .before .before .before .before .read-request .ensures) (c .before .verdict .given .1)
 
 read-request-requires : tie.Need-read-request-requires
 read-request-requires c κs = search needs
@@ -24,11 +39,11 @@ returns : tie.Need-returns
 unfolding answerEntry startsSearched orderSearched
 returns c =
     let a = c .before .before .before .before .before .before .before .before .before .args in
-    let read = file-refused (c .before .before .before .before .before .before .before .before .before .args .file .now) (c .before .before .before .before .before .read-request .result) (c .before .before .verdict .given .0 .0) (c .before .before .before .before .before .read-request .ensures) (c .before .before .verdict .given .1) in (
-      c .answer-refused .ensures ∙ ap (λ (file : FileReading). answerEntry file (a .limit) (length (a .starts .now)) (length (a .order .now))) (sym read),
+    let read = sym (no-request (c .before)) in (
+      c .answer-refused .ensures ∙ ap (λ (file : FileReading). answerEntry file (a .limit) (length (a .starts .now)) (length (a .order .now))) read,
       (
-        ap (λ (file : FileReading). startsSearched file (a .limit) (a .starts .now) (a .order .now)) (sym read),
-        ap (λ (file : FileReading). orderSearched file (a .limit) (a .starts .now) (a .order .now)) (sym read),
+        ap (λ (file : FileReading). startsSearched file (a .limit) (a .starts .now) (a .order .now)) read,
+        ap (λ (file : FileReading). orderSearched file (a .limit) (a .starts .now) (a .order .now)) read,
       ),
     )
 
@@ -51,13 +66,13 @@ returns-2 : tie.Need-returns-2
 unfolding answerEntry startsSearched orderSearched
 returns-2 c =
     let a = c .before .before .before .before .before .before .before .before .before .before .before .before .before .before .before .args in
-    let bytes : Bytes (c .before .before .before .before .before .before .before .before .before .before .before .before .before .before .before .args .file .now) = record { each = λ (at : ℕ). omega (arith, c .before .before .before .before .before .before .before .before .before .before .before .before .before .before .shared-slice-known .given at) } in
-    let read = file-accepted (c .before .before .before .before .before .before .before .before .before .before .before .before .before .before .before .args .file .now) (c .before .before .before .before .before .before .before .before .before .before .before .read-request .result) bytes (c .before .before .before .before .before .before .before .before .before .before .before .read-request .ensures) (c .before .before .before .before .before .before .before .before .enum-told .given .1) in (
-      c .search-told .ensures ∙ (ap searchTold (c .before .before .before .before .before .search .ensures .0)
-          ∙ ap (λ (file : FileReading). answerEntry file (a .limit) (length (a .starts .now)) (length (a .order .now))) (sym read)),
+    let searched = c .before .before .before .before .before .search in
+    let read = sym (held (c .before .before .before .before .before .before .before .before) .read) in (
+      c .search-told .ensures ∙ (ap searchTold (searched .ensures .0)
+          ∙ ap (λ (file : FileReading). answerEntry file (a .limit) (length (a .starts .now)) (length (a .order .now))) read),
       (
-        c .before .before .before .before .before .search .ensures .1 .0 ∙ ap (λ (file : FileReading). startsSearched file (a .limit) (a .starts .now) (a .order .now)) (sym read),
-        c .before .before .before .before .before .search .ensures .1 .1 ∙ ap (λ (file : FileReading). orderSearched file (a .limit) (a .starts .now) (a .order .now)) (sym read),
+        searched .ensures .1 .0 ∙ ap (λ (file : FileReading). startsSearched file (a .limit) (a .starts .now) (a .order .now)) read,
+        searched .ensures .1 .1 ∙ ap (λ (file : FileReading). orderSearched file (a .limit) (a .starts .now) (a .order .now)) read,
       ),
     )
 

@@ -1,6 +1,5 @@
 -- `host::searching::search_told` meets its contract. Assumes nothing.
 use mathlib.Core.Path.{sym, ap, _∙_}
-use Rattle.search.specs.declared.Outcome.{Outcome}
 use Rattle.host.specs.Host.{searchTold}
 use borrow.Author.Needs.{needs}
 use Rattle.host.proofs.searching.search_told.Statement.{statement}
