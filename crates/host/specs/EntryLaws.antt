@@ -16,7 +16,7 @@ use Rattle.grid.specs.declared.FrequencyReply.the-variants as frequency-reply
 use Rattle.request.specs.declared.Checked.{Checked}
 use Rattle.request.specs.declared.Checked.the-variants as checked
 use Rattle.request.specs.View.{View}
-use Rattle.request.specs.Reading.{FileReading, refused, accepted, readFile}
+use Rattle.request.specs.Reading.{FileReading, refused, accepted, readFile, idents}
 use Rattle.request.specs.ReadingLaws.{by-check}
 use Rattle.placing.specs.Placing.{boundOf}
 use Rattle.search.specs.declared.Outcome.{Outcome}
@@ -33,7 +33,8 @@ use Rattle.host.specs.declared.LightplanRequest.{LightplanRequest}
 use Rattle.host.specs.declared.LightplanAnswer.{LightplanAnswer}
 use Rattle.host.specs.declared.LightplanVerdict.{LightplanVerdict}
 use Rattle.host.specs.declared.LightplanFrequency.{LightplanFrequency}
-use Rattle.host.specs.Host.{requestRefused, requestTold, checkBuffers, requestAfter, requestEntry, identsAfter, widthsAfter, outcomeNumber, outcomeEnd, answerRefused, searchTold, answerEntry, startsSearched, orderSearched, verdictRefused, checkTold, verdictEntry, startsRead, startsEntry, frequencyTold, frequencyEntry}
+use Rattle.host.specs.Host.{requestRefused, requestTold, checkBuffers, requestAfter, requestEntry, identsAfter, widthsAfter, widths, outcomeNumber, outcomeEnd, answerRefused, searchTold, answerEntry, startsSearched, orderSearched, verdictRefused, checkTold, verdictEntry, startsRead, startsEntry, frequencyTold, frequencyEntry}
+use Rattle.host.specs.HostLaws.{room-enough, request-fits}
 
 -- ---- one answer
 
@@ -89,9 +90,14 @@ module _ (file : List ℕ) (why : Refusal) (read : readFile file ≡ refused why
 
 -- a file of a request: what the library's call answers for that request, and the buffers as it leaves them
 module _ (file : List ℕ) (v : View) (read : readFile file ≡ accepted v) where
-  pub read-answers : (a b : ℕ) → checkBuffers (v .demandCount) a b ≡ checked.Sound → requestEntry (readFile file) a b ≡ requestTold v
-  unfolding requestEntry requestAfter
-  read-answers a b room = ap (λ (r : FileReading). requestEntry r a b) read ∙ ap (λ (c : Checked). requestAfter c v) room
+  pub read-answers : (identsBefore widthsBefore : List ℕ) → v .demandCount ≤ length identsBefore → v .demandCount ≤ length widthsBefore →
+      (requestEntry (readFile file) (length identsBefore) (length widthsBefore) ≡ requestTold v) ×
+      (identsAfter (readFile file) identsBefore widthsBefore ≡ search.over (idents (v .demands)) identsBefore) ×
+      (widthsAfter (readFile file) identsBefore widthsBefore ≡ search.over (widths (v .demands)) widthsBefore)
+  read-answers identsBefore widthsBefore h k =
+      let room = room-enough (v .demandCount) (length identsBefore) (length widthsBefore) h k in
+      let told = request-fits (readFile file) v identsBefore widthsBefore read room in
+      (sym (told .0), sym (told .1 .0), sym (told .1 .1))
 
   pub search-answers : (limit : ℕ) (starts order : List ℕ) →
       (answerEntry (readFile file) limit (length starts) (length order) ≡ searchTold (search.searchReply v limit (length starts) (length order))) ×
