@@ -15,7 +15,8 @@ use Rattle.grid.specs.declared.Block.{Block}
 use Rattle.grid.specs.declared.BlockReply.{BlockReply}
 use Rattle.grid.specs.declared.BlockReply.the-variants as block-reply
 use Rattle.grid.specs.Grid.{allowedBand, bandReply, allowedWidth, endWithin, centralNumber, centralMHz, frequencyOf, frequencyReply, gapOf, evenNatural, halfOf, blockAt, blockReply}
-use Rattle.grid.specs.ReplyLaws.{by-test, frequency-outside, frequency-width, frequency-end, frequency-centred, block-outside, block-width, block-gap, at-odd, at-end, at-half}
+use Rattle.theory.specs.TestLaws.{by-test}
+use Rattle.grid.specs.ReplyLaws.{frequency-outside, frequency-width, frequency-end, frequency-centred, block-outside, block-width, block-gap, at-odd, at-end, at-half}
 
 -- ---- the numbers alone
 

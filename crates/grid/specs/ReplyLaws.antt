@@ -1,4 +1,4 @@
--- Laws of tests, which the crates above cite too; and laws of the replies, one for each way a reply can go.
+-- Laws of tests as the code meets them, and laws of the replies, one for each way a reply can go.
 use Prim.Native.Nat.{ℕ, _+_, _-_, _≤_}
 use mathlib.Core.Path.{_≡_, refl, sym, _∙_}
 use mathlib.Core.Bool.{Bool, true, false, not, _&&_}
@@ -7,6 +7,7 @@ use borrow.Author.Tests.{leb-true, leb-false, le-leb, lt-leb, not-true, not-fals
 use lib.Dec.{leb}
 use lib.IntN.{ℤ}
 use Rattle.refusal.specs.declared.Refusal.the-variants.{BandOutside, BadWidth, EndAbove, NoBlock}
+use Rattle.theory.specs.TestLaws.{by-test}
 use Rattle.grid.specs.declared.Band.{Band}
 use Rattle.grid.specs.declared.BandReply.the-variants as band-reply
 use Rattle.grid.specs.declared.FrequencyReply.the-variants as frequency-reply
@@ -24,21 +25,6 @@ both-if false b h = absurd (let no : _≡_ {A = ℕ} 0 1 = cc in omega arith)
 pub not-both : (a b : Bool) → a ≡ false → false ≡ a && b
 not-both true b h = absurd (let no : _≡_ {A = ℕ} 0 1 = cc in omega arith)
 not-both false b h = refl
-
--- where both tests hold, the first does
-pub first-of-both : (a b : Bool) → a && b ≡ true → a ≡ true
-first-of-both true b h = refl
-first-of-both false b h = h
-
--- where both tests hold, the second does
-pub second-of-both : (a b : Bool) → a && b ≡ true → b ≡ true
-second-of-both true b h = h
-second-of-both false b h = absurd (let no : _≡_ {A = ℕ} 0 1 = cc in omega arith)
-
--- a test holds or fails
-pub by-test : {X : Type 0} (b : Bool) → (b ≡ true → X) → (b ≡ false → X) → X
-by-test true held failed = held refl
-by-test false held failed = failed refl
 
 -- what a test was found to be holds, where its refusal was passed by
 pub passed-by : {found b : Bool} → found ≡ b → not found ≡ false → b ≡ true

@@ -8,9 +8,8 @@ use native.Mathlib.Omega.{arith}
 use lib.ListN.{length}
 use lib.IntN.{ℤ}
 use Rattle.refusal.specs.declared.Refusal.{Refusal}
-use Rattle.refusal.specs.declared.Refusal.the-variants.{PastEnd, WrongTag, WrongLength, BandOutside, BadLink, TooManyDemands, BadRoute, IdentUsed, BadWidth, BufferShort, TooManyToSearch, NotAnOrder, NoStart, UnknownIdent, IdentSeen, NoRow, EndAbove, Clash, NoBlock, FileTooLong}
 use Rattle.refusal.specs.Refusal.{numberOf}
-use Rattle.refusal.specs.RefusalLaws.{same-refusal}
+use Rattle.refusal.specs.RefusalLaws.{same-refusal, some-number}
 use Rattle.grid.specs.declared.FrequencyReply.{FrequencyReply}
 use Rattle.grid.specs.declared.FrequencyReply.the-variants as frequency-reply
 use Rattle.request.specs.declared.Checked.{Checked}
@@ -33,7 +32,8 @@ use Rattle.host.specs.declared.LightplanRequest.{LightplanRequest}
 use Rattle.host.specs.declared.LightplanAnswer.{LightplanAnswer}
 use Rattle.host.specs.declared.LightplanVerdict.{LightplanVerdict}
 use Rattle.host.specs.declared.LightplanFrequency.{LightplanFrequency}
-use Rattle.host.specs.Host.{requestRefused, requestTold, checkBuffers, requestAfter, requestEntry, identsAfter, widthsAfter, widths, outcomeNumber, outcomeEnd, answerRefused, searchTold, answerEntry, startsSearched, orderSearched, verdictRefused, checkTold, verdictEntry, startsRead, startsEntry, frequencyTold, frequencyEntry}
+use Rattle.search.specs.Reply.{outcomeNumber, outcomeEnd}
+use Rattle.host.specs.Host.{requestRefused, requestTold, checkBuffers, requestAfter, requestEntry, identsAfter, widthsAfter, widths, answerRefused, searchTold, answerEntry, startsSearched, orderSearched, verdictRefused, checkTold, verdictEntry, startsRead, startsEntry, frequencyTold, frequencyEntry}
 use Rattle.host.specs.HostLaws.{room-enough, request-fits}
 
 -- ---- one answer
@@ -124,29 +124,6 @@ module _ (file : List ℕ) (v : View) (read : readFile file ≡ accepted v) wher
   check-starts-answers starts = ap (λ (r : FileReading). startsEntry r starts) read
 
 -- ---- nothing is lost
-
--- no refusal has the number 0
-pub some-number : (why : Refusal) → 1 ≤ numberOf why
-some-number (PastEnd place) = omega arith
-some-number (WrongTag place) = omega arith
-some-number (WrongLength place) = omega arith
-some-number (BandOutside place) = omega arith
-some-number (BadLink place) = omega arith
-some-number (TooManyDemands place) = omega arith
-some-number (BadRoute place) = omega arith
-some-number (IdentUsed place) = omega arith
-some-number (BadWidth place) = omega arith
-some-number (BufferShort place) = omega arith
-some-number (TooManyToSearch place) = omega arith
-some-number (NotAnOrder place) = omega arith
-some-number (NoStart place) = omega arith
-some-number (UnknownIdent place) = omega arith
-some-number (IdentSeen place) = omega arith
-some-number (NoRow place) = omega arith
-some-number (EndAbove place) = omega arith
-some-number (Clash place) = omega arith
-some-number (NoBlock place) = omega arith
-some-number (FileTooLong place) = omega arith
 
 -- an outcome is its number and its end
 same-outcome : (o o′ : Outcome) → outcomeNumber o ≡ outcomeNumber o′ → outcomeEnd o ≡ outcomeEnd o′ → o ≡ o′

@@ -21,6 +21,7 @@ use Rattle.search.specs.declared.Outcome.the-variants.{Finished, NothingFits, U
 use Rattle.search.specs.declared.SearchReply.{SearchReply}
 use Rattle.search.specs.declared.SearchReply.the-variants as search-reply
 use Rattle.search.specs.Reply as search
+use Rattle.search.specs.Reply.{outcomeNumber, outcomeEnd}
 use Rattle.plan.specs.declared.CheckReply.{CheckReply}
 use Rattle.plan.specs.declared.CheckReply.the-variants as check-reply
 use Rattle.plan.specs.CheckStarts.{startsReply}
@@ -90,20 +91,6 @@ widthsAfter (accepted v) identsBefore widthsBefore =
     (search.over (widths (v .demands)) widthsBefore)
 
 -- ---- a request file searched
-
--- which of the four outcomes it is
-unfoldable pub outcomeNumber : Outcome → ℕ
-outcomeNumber (Finished e) = 0
-outcomeNumber NothingFits = 1
-outcomeNumber (Unfinished e) = 2
-outcomeNumber UnfinishedEmpty = 3
-
--- the end of the plan, 0 without one
-unfoldable pub outcomeEnd : Outcome → ℕ
-outcomeEnd (Finished e) = e
-outcomeEnd NothingFits = 0
-outcomeEnd (Unfinished e) = e
-outcomeEnd UnfinishedEmpty = 0
 
 -- a refusal: its number and its place, all else 0
 unfoldable pub answerRefused : Refusal → LightplanAnswer

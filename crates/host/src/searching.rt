@@ -9,7 +9,8 @@ use search::search;
 ghost use mathlib.Core.Path.{_≡_};
 ghost use lib.ListN.{length};
 ghost use Rattle.request.specs.Reading.{readFile};
-ghost use Rattle.host.specs.Host.{outcomeNumber, outcomeEnd, answerRefused, searchTold, answerEntry, startsSearched, orderSearched};
+ghost use Rattle.search.specs.Reply.{outcomeNumber, outcomeEnd};
+ghost use Rattle.host.specs.Host.{answerRefused, searchTold, answerEntry, startsSearched, orderSearched};
 
 // Searches the request in a file with at most `limit` steps. With a plan `starts` gets its start of each demand by listing
 // position, and `order` the order that gave it. The reader's refusals at their offsets come first, then 11 and 10.

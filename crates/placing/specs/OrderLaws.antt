@@ -12,7 +12,7 @@ use lib.Seq.{take-suc, drop-cons}
 use borrow.Author.Tests.{le-leb, lt-leb, leb-false, eq-eqb, ne-eqb, eqb-true}
 use Rattle.refusal.specs.declared.Refusal.{Refusal}
 use Rattle.refusal.specs.declared.Refusal.the-variants.{NotAnOrder}
-use Rattle.theory.specs.TestLaws.{by-test}
+use Rattle.theory.specs.TestLaws.{by-test, or-first, or-second, or-neither}
 use Rattle.theory.specs.Arrange.{Arrange}
 use Rattle.theory.specs.ArrangeLaws.{no-repeats-first, no-repeats-rest, no-repeats-with, arrange-from, arrange-length, arrange-mem, arrange-no-repeats}
 use Rattle.theory.specs.Earlier.{NoRepeats, Chained}
@@ -21,7 +21,7 @@ use Rattle.theory.specs.ListingLaws.{listing-mem, listing-below, listing-length
 use Rattle.request.specs.declared.Checked.the-variants as checked
 use Rattle.request.specs.Check.{then, has}
 use Rattle.request.specs.CheckLaws.{then-sound, then-refused, first-sound, next-sound}
-use Rattle.request.specs.TestLaws.{first-fails, second-fails, neither}
+use Rattle.request.specs.SoundLaws.{not-refused}
 use Rattle.placing.specs.FirstFit.{wrongEntry, checkEntries, checkLength, checkOrder}
 use Rattle.placing.specs.MeetingLaws.{has-append}
 
@@ -63,7 +63,7 @@ module _ (K : ℕ) (order : List ℕ) (k : ℕ) (h : k < length order) where
       then-sound (cond (wrongEntry K (take k order) (getD order k 0)) (checked.Refused (NotAnOrder k)) checked.Sound)
       (checkEntries K (take (k + 1) order) (k + 1) (drop (k + 1) order))
       (ap (λ (b : Bool). cond b (checked.Refused (NotAnOrder k)) checked.Sound)
-      (neither (leb K (getD order k 0)) (has (getD order k 0) (take k order)) (lt-leb K (getD order k 0) below) new))
+      (or-neither (leb K (getD order k 0)) (has (getD order k 0) (take k order)) (lt-leb K (getD order k 0) below) new))
 
 -- behind the last entry all have passed
 pub entries-end : (K : ℕ) (order : List ℕ) (k : ℕ) → length order ≤ k → checkEntries K (take k order) k (drop k order) ≡ checked.Sound
@@ -84,22 +84,17 @@ order-length K order e =
     then-refused (checkLength K order) (checkEntries K [] 0 order) (NotAnOrder (length order))
     (ap (λ (b : Bool). cond b checked.Sound (checked.Refused (NotAnOrder (length order)))) (ne-eqb (length order) K e))
 
--- an entry that is not refused is not wrong
-not-wrong : (wrong : Bool) (why : Refusal) → cond wrong (checked.Refused why) checked.Sound ≡ checked.Sound → wrong ≡ false
-not-wrong true why e = absurd (let z : _≡_ {A = ℕ} 0 1 = cc in omega arith)
-not-wrong false why e = refl
-
 -- where entries pass the first is not wrong
 first-right : (K : ℕ) (earlier : List ℕ) (k i : ℕ) (order : List ℕ) → checkEntries K earlier k (i ∷ order) ≡ checked.Sound →
     (i < K) × (has i earlier ≡ false)
 unfolding checkEntries wrongEntry
 first-right K earlier k i order sound =
     let right : wrongEntry K earlier i ≡ false
-    = not-wrong (wrongEntry K earlier i) (NotAnOrder k)
+    = not-refused (wrongEntry K earlier i) (NotAnOrder k)
     (first-sound (cond (wrongEntry K earlier i) (checked.Refused (NotAnOrder k)) checked.Sound)
     (checkEntries K (earlier ++ (i ∷ [])) (k + 1) order) sound) in (
-      leb-false K i (first-fails (leb K i) (has i earlier) right),
-      second-fails (leb K i) (has i earlier) right,
+      leb-false K i (or-first (leb K i) (has i earlier) right),
+      or-second (leb K i) (has i earlier) right,
     )
 
 -- and the others pass
@@ -119,7 +114,7 @@ entries-new K earlier k (i ∷ order) sound j m =
     (λ (e : j ≡ i). rw e (first-right K earlier k i order sound))
     (λ (n : List·Memᴰ j order).
     let later = entries-new K (earlier ++ (i ∷ [])) (k + 1) order (rest-passes K earlier k i order sound) j n in
-    (later .0, first-fails (has j earlier) (eqb j i) (sym (has-append j earlier i) ∙ later .1)))
+    (later .0, or-first (has j earlier) (eqb j i) (sym (has-append j earlier i) ∙ later .1)))
     (List·Memᴰ·cases-cons m)
 
 -- none of the entries that pass stands twice
@@ -131,7 +126,7 @@ entries-once K earlier k (i ∷ order) sound =
     no-repeats-with i order
     (λ m.
     let again = entries-new K (earlier ++ (i ∷ [])) (k + 1) order rest i m .1 in
-    let other = second-fails (has i earlier) (eqb i i) (sym (has-append i earlier i) ∙ again) in
+    let other = or-second (has i earlier) (eqb i i) (sym (has-append i earlier i) ∙ again) in
     borrow.Author.Tests.eqb-false i i other refl)
     (entries-once K (earlier ++ (i ∷ [])) (k + 1) order rest)
 
@@ -173,12 +168,12 @@ entries-right K earlier k (i ∷ order) new once =
     let first = new i (List·Memᴰ·head refl) in
     then-sound (cond (wrongEntry K earlier i) (checked.Refused (NotAnOrder k)) checked.Sound) (checkEntries K (earlier ++ (i ∷ [])) (k + 1) order)
     (ap (λ (b : Bool). cond b (checked.Refused (NotAnOrder k)) checked.Sound)
-    (neither (leb K i) (has i earlier) (lt-leb K i (first .0)) (first .1)))
+    (or-neither (leb K i) (has i earlier) (lt-leb K i (first .0)) (first .1)))
     ∙ entries-right K (earlier ++ (i ∷ [])) (k + 1) order
     (λ j m.
     let later = new j (List·Memᴰ·tail m) in (
       later .0,
-      has-append j earlier i ∙ neither (has j earlier) (eqb j i) (later .1)
+      has-append j earlier i ∙ or-neither (has j earlier) (eqb j i) (later .1)
           (ne-eqb j i (λ (e : j ≡ i). no-repeats-first i order once (subst (λ (n : ℕ). List·Memᴰ n order) e m))),
     ))
     (no-repeats-rest i order once)

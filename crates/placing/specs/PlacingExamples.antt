@@ -7,7 +7,7 @@ use lib.IntN.{negℤ, pos}
 use Rattle.theory.specs.Problem.{endOf, apart, fits, past, least, lowest, place, top, firstFit, startIn}
 use Rattle.theory.specs.Orders.{countUp, listing}
 use Rattle.request.specs.View.{View, noLink, linkAt, noDemand, demandAt}
-use Rattle.request.specs.Check.{then, has, listed, once, unbroken, soundRoute, allowedWidth, allowedHops, checkBand, checkSomeLink, checkLinks, checkLinkCount, checkDemand, checkDemands, checkDemandCount, check}
+use Rattle.request.specs.Check.{then, has, listed, once, unbroken, soundRoute, allowedHops, checkBand, checkSomeLink, checkLinks, checkLinkCount, checkDemand, checkDemands, checkDemandCount, check}
 use Rattle.placing.specs.declared.BoundReply.the-variants as bound-reply
 use Rattle.placing.specs.declared.PlacedReply.the-variants as placed-reply
 use Rattle.placing.specs.Placing.{shareLink, problemOf, widthOn, demandsOn, linkBound, boundOver, boundOf}
@@ -31,27 +31,27 @@ requestR guard =
 
 -- c1: R in listing order ends at 6
 pub c1-end : firstFitReply (requestR 0) (0 ∷ 1 ∷ 2 ∷ []) (7 ∷ 7 ∷ 7 ∷ 7 ∷ []) ≡ placed-reply.Placed 6
-unfolding firstFitReply checkFirstFit fitted fittedReply placedAfter checkOrder checkLength checkEntries wrongEntry checkRoom then has listed once unbroken soundRoute allowedWidth allowedHops checkBand checkSomeLink checkLinks checkLinkCount checkDemand checkDemands checkDemandCount check problemOf shareLink endOf apart fits past least lowest place top firstFit linkAt noLink demandAt noDemand
+unfolding firstFitReply checkFirstFit fitted fittedReply placedAfter checkOrder checkLength checkEntries wrongEntry checkRoom then has listed once unbroken soundRoute allowedHops checkBand checkSomeLink checkLinks checkLinkCount checkDemand checkDemands checkDemandCount check problemOf shareLink endOf apart fits past least lowest place top firstFit linkAt noLink demandAt noDemand
 c1-end = refl
 
 -- c1: its starts are 0, 2, 3, and nothing behind them is written
 pub c1-starts : firstFitStarts (requestR 0) (0 ∷ 1 ∷ 2 ∷ []) (7 ∷ 7 ∷ 7 ∷ 7 ∷ []) ≡ 0 ∷ 2 ∷ 3 ∷ 7 ∷ []
-unfolding firstFitStarts startsAfter fittedStarts startsOf startIn countUp listing checkFirstFit fitted checkOrder checkLength checkEntries wrongEntry checkRoom then has listed once unbroken soundRoute allowedWidth allowedHops checkBand checkSomeLink checkLinks checkLinkCount checkDemand checkDemands checkDemandCount check problemOf shareLink endOf apart fits past least lowest place top firstFit linkAt noLink demandAt noDemand
+unfolding firstFitStarts startsAfter fittedStarts startsOf startIn countUp listing checkFirstFit fitted checkOrder checkLength checkEntries wrongEntry checkRoom then has listed once unbroken soundRoute allowedHops checkBand checkSomeLink checkLinks checkLinkCount checkDemand checkDemands checkDemandCount check problemOf shareLink endOf apart fits past least lowest place top firstFit linkAt noLink demandAt noDemand
 c1-starts = refl
 
 -- c1: the bound of R is 4
 pub c1-bound : boundReply (requestR 0) ≡ bound-reply.Bound 4
-unfolding boundReply boundAfter boundOf boundOver linkBound widthOn demandsOn then has listed once unbroken soundRoute allowedWidth allowedHops checkBand checkSomeLink checkLinks checkLinkCount checkDemand checkDemands checkDemandCount check linkAt noLink
+unfolding boundReply boundAfter boundOf boundOver linkBound widthOn demandsOn then has listed once unbroken soundRoute allowedHops checkBand checkSomeLink checkLinks checkLinkCount checkDemand checkDemands checkDemandCount check linkAt noLink
 c1-bound = refl
 
 -- c5: with a guard of 1 the bound is 5
 pub c5-bound : boundReply (requestR 1) ≡ bound-reply.Bound 5
-unfolding boundReply boundAfter boundOf boundOver linkBound widthOn demandsOn then has listed once unbroken soundRoute allowedWidth allowedHops checkBand checkSomeLink checkLinks checkLinkCount checkDemand checkDemands checkDemandCount check linkAt noLink
+unfolding boundReply boundAfter boundOf boundOver linkBound widthOn demandsOn then has listed once unbroken soundRoute allowedHops checkBand checkSomeLink checkLinks checkLinkCount checkDemand checkDemands checkDemandCount check linkAt noLink
 c5-bound = refl
 
 -- c5: and the listing order ends at 8
 pub c5-end : firstFitReply (requestR 1) (0 ∷ 1 ∷ 2 ∷ []) (7 ∷ 7 ∷ 7 ∷ []) ≡ placed-reply.Placed 8
-unfolding firstFitReply checkFirstFit fitted fittedReply placedAfter checkOrder checkLength checkEntries wrongEntry checkRoom then has listed once unbroken soundRoute allowedWidth allowedHops checkBand checkSomeLink checkLinks checkLinkCount checkDemand checkDemands checkDemandCount check problemOf shareLink endOf apart fits past least lowest place top firstFit linkAt noLink demandAt noDemand
+unfolding firstFitReply checkFirstFit fitted fittedReply placedAfter checkOrder checkLength checkEntries wrongEntry checkRoom then has listed once unbroken soundRoute allowedHops checkBand checkSomeLink checkLinks checkLinkCount checkDemand checkDemands checkDemandCount check problemOf shareLink endOf apart fits past least lowest place top firstFit linkAt noLink demandAt noDemand
 c5-end = refl
 
 -- c9: with a guard of 1 and a demand of width 2 at 0, one that shares a link clashes at start 2

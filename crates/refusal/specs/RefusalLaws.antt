@@ -1,7 +1,8 @@
 -- A refusal is its number and its place, and nothing more.
-use Prim.Native.Nat.{ℕ, _-_}
+use Prim.Native.Nat.{ℕ, _-_, _≤_}
 use mathlib.Core.Path.{_≡_, refl, sym, _∙_, ap}
 use mathlib.Core.List.{List, [], _∷_}
+use native.Mathlib.Omega.{arith}
 use lib.ListN.{getD}
 use Rattle.refusal.specs.declared.Refusal.{Refusal}
 use Rattle.refusal.specs.declared.Refusal.the-variants.{PastEnd, WrongTag, WrongLength, BandOutside, BadLink, TooManyDemands, BadRoute, IdentUsed, BadWidth, BufferShort, TooManyToSearch, NotAnOrder, NoStart, UnknownIdent, IdentSeen, NoRow, EndAbove, Clash, NoBlock, FileTooLong}
@@ -52,3 +53,26 @@ same-number r n n′ h k = h ∙ sym k
 -- two results that meet the contract of `place` are equal
 pub same-place : (r : Refusal) (p p′ : ℕ) → p ≡ placeOf r → p′ ≡ placeOf r → p ≡ p′
 same-place r p p′ h k = h ∙ sym k
+
+-- no refusal has the number 0
+pub some-number : (why : Refusal) → 1 ≤ numberOf why
+some-number (PastEnd place) = omega arith
+some-number (WrongTag place) = omega arith
+some-number (WrongLength place) = omega arith
+some-number (BandOutside place) = omega arith
+some-number (BadLink place) = omega arith
+some-number (TooManyDemands place) = omega arith
+some-number (BadRoute place) = omega arith
+some-number (IdentUsed place) = omega arith
+some-number (BadWidth place) = omega arith
+some-number (BufferShort place) = omega arith
+some-number (TooManyToSearch place) = omega arith
+some-number (NotAnOrder place) = omega arith
+some-number (NoStart place) = omega arith
+some-number (UnknownIdent place) = omega arith
+some-number (IdentSeen place) = omega arith
+some-number (NoRow place) = omega arith
+some-number (EndAbove place) = omega arith
+some-number (Clash place) = omega arith
+some-number (NoBlock place) = omega arith
+some-number (FileTooLong place) = omega arith

@@ -15,7 +15,7 @@ use Rattle.search.specs.declared.Outcome.the-variants.{Finished, NothingFits, U
 use Rattle.search.specs.declared.Answer.{Answer}
 use Rattle.search.specs.declared.SearchReply.{SearchReply}
 use Rattle.search.specs.declared.SearchReply.the-variants as reply
-use Rattle.search.specs.Reply.{searchReply, startsAfter}
+use Rattle.search.specs.Reply.{outcomeEnd, searchReply, startsAfter}
 use Rattle.report.specs.Lines.{finished-word, nofit-word, unfinished-word, answerLine, refusedLine}
 use Rattle.report.specs.Rows.{rows}
 
@@ -30,17 +30,10 @@ wordOf NothingFits = nofit-word
 wordOf (Unfinished e) = unfinished-word
 wordOf UnfinishedEmpty = unfinished-word
 
--- the end shown: 0 without a plan
-unfoldable pub endShown : Outcome → ℕ
-endShown (Finished e) = e
-endShown NothingFits = 0
-endShown (Unfinished e) = e
-endShown UnfinishedEmpty = 0
-
 -- the first line of an answer
 unfoldable pub answerText : Answer → List ℕ
 answerText a =
-    answerLine (wordOf (a .outcome)) (endShown (a .outcome)) (a .bound) (a .steps) (a .reached) (a .ruled)
+    answerLine (wordOf (a .outcome)) (outcomeEnd (a .outcome)) (a .bound) (a .steps) (a .reached) (a .ruled)
 
 -- the rows of an outcome: none without a plan
 unfoldable pub planText : Outcome → List ℕ → List ℕ

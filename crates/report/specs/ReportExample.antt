@@ -10,11 +10,11 @@ use Rattle.request.specs.View.{view}
 use Rattle.request.specs.Reading.{readFile}
 use Rattle.request.specs.Packing.{packReading}
 use Rattle.placing.specs.Placing.{problemOf, boundOf}
-use Rattle.search.specs.Reply.{searchReply, startsAfter}
+use Rattle.search.specs.Reply.{outcomeEnd, searchReply, startsAfter}
 use Rattle.report.specs.Text.{decimal, decimalSigned}
 use Rattle.report.specs.Lines.{finished-word, end-name, bound-name, steps-name, reached-name, ruled-name, space, newline, named, namedSigned, answerLine, rowLine}
 use Rattle.report.specs.Rows.{centredRow, demandRow, rows}
-use Rattle.report.specs.Report.{wordOf, endShown, answerText, planText, replyText, twentyZeros, requestText, readText, reportText}
+use Rattle.report.specs.Report.{wordOf, answerText, planText, replyText, twentyZeros, requestText, readText, reportText}
 
 -- the file of R
 abbrev R : List ℕ
@@ -43,5 +43,5 @@ fourth = 51 ∷ 48 ∷ 32 ∷ 48 ∷ 32 ∷ 51 ∷ 32 ∷ 45 ∷ 50 ∷ 56 ∷ 4
 
 -- what is printed for R, to the byte
 pub R-printed : reportText R ≡ first ++ (second ++ (third ++ fourth))
-unfolding reportText readText requestText replyText twentyZeros answerText wordOf endShown planText rows demandRow centredRow answerLine rowLine named namedSigned decimal decimalSigned finished-word end-name bound-name steps-name reached-name ruled-name space newline readFile packReading view searchReply startsAfter frequencyReply theory.search boundOf listing problem.top problem.place problem.lowest problem.past problemOf problem.fits problem.startIn
+unfolding reportText readText requestText replyText twentyZeros answerText wordOf outcomeEnd planText rows demandRow centredRow answerLine rowLine named namedSigned decimal decimalSigned finished-word end-name bound-name steps-name reached-name ruled-name space newline readFile packReading view searchReply startsAfter frequencyReply theory.search boundOf listing problem.top problem.place problem.lowest problem.past problemOf problem.fits problem.startIn
 R-printed = refl

@@ -24,22 +24,22 @@ use Rattle.search.specs.declared.Outcome.the-variants.{Finished, NothingFits, U
 use Rattle.search.specs.declared.Answer.{Answer}
 use Rattle.search.specs.declared.SearchReply.{SearchReply}
 use Rattle.search.specs.declared.SearchReply.the-variants as reply
-use Rattle.search.specs.Reply.{checkSearch, replyTo, searched, searchReply, startsAfter}
+use Rattle.search.specs.Reply.{outcomeEnd, checkSearch, replyTo, searched, searchReply, startsAfter}
 use Rattle.search.specs.ReplyLaws.{passed-starts}
 use Rattle.report.specs.declared.Page.{Page}
 use Rattle.report.specs.Text.{appended, pageOf}
 use Rattle.report.specs.TextLaws.{appended-twice}
 use Rattle.report.specs.Lines.{answerLine}
 use Rattle.report.specs.Rows.{rows}
-use Rattle.report.specs.Report.{refusalText, wordOf, endShown, answerText, planText, replyText, twentyZeros, requestText, readText, reportText}
+use Rattle.report.specs.Report.{refusalText, wordOf, answerText, planText, replyText, twentyZeros, requestText, readText, reportText}
 
 -- ---- the parts
 
 -- an answer of an outcome has its line
 pub answer-told : (a : Answer) (outcome : Outcome) → a .outcome ≡ outcome →
-    answerText a ≡ answerLine (wordOf outcome) (endShown outcome) (a .bound) (a .steps) (a .reached) (a .ruled)
+    answerText a ≡ answerLine (wordOf outcome) (outcomeEnd outcome) (a .bound) (a .steps) (a .reached) (a .ruled)
 unfolding answerText
-answer-told a outcome h = ap (λ (o : Outcome). answerLine (wordOf o) (endShown o) (a .bound) (a .steps) (a .reached) (a .ruled)) h
+answer-told a outcome h = ap (λ (o : Outcome). answerLine (wordOf o) (outcomeEnd o) (a .bound) (a .steps) (a .reached) (a .ruled)) h
 
 -- a text behind the text of a page
 pub page-behind : {page r : Page} (text more : List ℕ) → page ≡ pageOf text → r ≡ appended page more → r ≡ pageOf (text ++ more)

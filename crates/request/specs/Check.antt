@@ -6,7 +6,7 @@ use lib.ListN.{length}
 use lib.Dec.{leb, ltb, eqb}
 use Rattle.refusal.specs.declared.Refusal.the-variants.{WrongTag, WrongLength, BandOutside, BadLink, TooManyDemands, BadRoute, IdentUsed, BadWidth}
 use Rattle.grid.specs.declared.Band.{Band}
-use Rattle.grid.specs.Grid.{allowedBand}
+use Rattle.grid.specs.Grid.{allowedBand, allowedWidth}
 use Rattle.request.specs.declared.Link.{Link}
 use Rattle.request.specs.declared.Checked.{Checked}
 use Rattle.request.specs.declared.Checked.the-variants.{Sound, Refused}
@@ -46,10 +46,6 @@ unfoldable pub soundRoute : List Link → List ℕ → Bool
 unfolding listed once unbroken
 soundRoute links route = listed (length links) route && (once route && unbroken links route)
 
--- a width is allowed from 1 to S
-unfoldable pub allowedWidth : ℕ → ℕ → Bool
-allowedWidth S w = leb 1 w && leb w S
-
 -- a route has 1 to 32 links
 unfoldable pub allowedHops : ℕ → Bool
 allowedHops hops = leb 1 hops && leb hops 32
@@ -74,7 +70,7 @@ checkLinkCount count = cond (ltb 64 count) (Refused (BadLink 64)) Sound
 
 -- one demand at its listing position, after demands of these idents: 8, 9, 3, 7
 unfoldable pub checkDemand : ℕ → List Link → List ℕ → ℕ → DemandView → Checked
-unfolding then has allowedWidth allowedHops soundRoute
+unfolding then has allowedHops soundRoute
 checkDemand S links earlier k d =
     then (cond (has (d .ident) earlier) (Refused (IdentUsed k)) Sound)
     (then (cond (allowedWidth S (d .width)) Sound (Refused (BadWidth k)))

@@ -13,14 +13,14 @@ use lib.Dec.{leb, ltb, eqb}
 use Rattle.refusal.specs.declared.Refusal.{Refusal}
 use Rattle.refusal.specs.declared.Refusal.the-variants.{WrongTag, WrongLength, BandOutside, BadLink, TooManyDemands, BadRoute, IdentUsed, BadWidth}
 use Rattle.grid.specs.declared.Band.{Band}
-use Rattle.grid.specs.Grid.{allowedBand}
+use Rattle.grid.specs.Grid.{allowedBand, allowedWidth}
 use Rattle.request.specs.declared.Link.{Link}
 use Rattle.request.specs.declared.Request.{Request}
 use Rattle.request.specs.declared.Checked.{Checked}
 use Rattle.request.specs.declared.Checked.the-variants.{Sound, Refused}
 use Rattle.request.specs.View.{DemandView, linkAt, noLink, demandAt, noDemand, view}
-use Rattle.request.specs.TestLaws.{by-test, first-of, second-of}
-use Rattle.request.specs.Check.{then, has, soundRoute, allowedWidth, allowedHops, checkBand, checkSomeLink, checkLinks, checkLinkCount, checkDemand, checkDemands, checkDemandCount, check}
+use Rattle.theory.specs.TestLaws.{by-test, and-first, and-second}
+use Rattle.request.specs.Check.{then, has, soundRoute, allowedHops, checkBand, checkSomeLink, checkLinks, checkLinkCount, checkDemand, checkDemands, checkDemandCount, check}
 
 -- after a check that passes comes the next
 pub then-sound : (a next : Checked) → a ≡ Sound → then a next ≡ next
@@ -101,15 +101,14 @@ few-demands count h = ap (λ (b : Bool). cond b (Refused (TooManyDemands 200)) S
 
 -- an allowed width is 1 to S
 pub width-allowed : (S w : ℕ) → allowedWidth S w ≡ true → (1 ≤ w) × (w ≤ S)
-unfolding allowedWidth
-width-allowed S w h = (leb-true 1 w (first-of (leb 1 w) (leb w S) h), leb-true w S (second-of (leb 1 w) (leb w S) h))
+width-allowed S w h = (leb-true 1 w (and-first (leb 1 w) (leb w S) h), leb-true w S (and-second (leb 1 w) (leb w S) h))
 
 -- an allowed route length is 1 to 32
 pub hops-allowed : (hops : ℕ) → allowedHops hops ≡ true → (1 ≤ hops) × (hops ≤ 32)
 unfolding allowedHops
 hops-allowed hops h = (
-  leb-true 1 hops (first-of (leb 1 hops) (leb hops 32) h),
-  leb-true hops 32 (second-of (leb 1 hops) (leb hops 32) h),
+  leb-true 1 hops (and-first (leb 1 hops) (leb hops 32) h),
+  leb-true hops 32 (and-second (leb 1 hops) (leb hops 32) h),
 )
 
 -- the links from a position on: the one there, then those behind it

@@ -10,12 +10,13 @@ use lib.Seq.{length-take-le}
 use lib.Dec.{ltb}
 use Rattle.refusal.specs.declared.Refusal.{Refusal}
 use Rattle.refusal.specs.declared.Refusal.the-variants.{TooManyDemands, IdentUsed, BadWidth, BadRoute}
+use Rattle.grid.specs.Grid.{allowedWidth}
 use Rattle.request.specs.declared.Link.{Link}
 use Rattle.request.specs.declared.Demand.{Demand}
 use Rattle.request.specs.declared.Checked.{Checked}
 use Rattle.request.specs.declared.Checked.the-variants.{Sound, Refused}
 use Rattle.request.specs.View.{DemandView, viewDemand}
-use Rattle.request.specs.Check.{then, has, allowedWidth, soundRoute}
+use Rattle.request.specs.Check.{then, has, soundRoute}
 use Rattle.request.specs.Reading.{must, number16, bodyLength, fieldEnd, checkField, demandIn, checkNewDemand, checkDemandField, idents, demandsRefused, demandsRead, nextDemands, readDemands}
 use Rattle.request.specs.Packing.{padded, emptyDemand, packDemand, packDemands}
 use Rattle.request.specs.CheckLaws.{first-sound, next-sound}

@@ -13,7 +13,7 @@ use Rattle.request.specs.declared.Link.{Link}
 use Rattle.request.specs.declared.Checked.the-variants.{Sound, Refused}
 use Rattle.request.specs.View.{DemandView, demandAt}
 use Rattle.request.specs.Check.{allowedHops, checkLinks, checkDemand, checkDemands}
-use Rattle.request.specs.TestLaws.{by-test, first-of, both}
+use Rattle.theory.specs.TestLaws.{by-test, and-first, and-both}
 use Rattle.request.specs.CheckLaws.{then-sound, next-sound, first-sound, demand-passes}
 use Rattle.request.specs.Encoding.{linkField, demandField, linkFields, demandFields}
 use Rattle.request.specs.Reading.{number16, bodyLength, checkField, linkIn, checkLinkField, demandIn, checkNewDemand, checkDemandField, idents, linksEnd, linksRefused, linksRead, readLinks, demandsRefused, demandsRead, readDemands}
@@ -35,7 +35,7 @@ links-ended s at before within few ended =
       all = sym (append-nil before);
       encoded = refl;
       within = within;
-      some = ltb-true 0 (length before) (first-of (ltb 0 (length before)) _ ended);
+      some = ltb-true 0 (length before) (and-first (ltb 0 (length before)) _ ended);
       few = few;
       sound = λ (k : ℕ). refl;
     }
@@ -113,7 +113,7 @@ hops-in-field : (s : List ℕ) (at : ℕ) → FieldHolds s at 3 5 36 → allowed
 unfolding allowedHops demandIn bodyLength
 hops-in-field s at h =
     let hops = number16 s (at + 1) - 4 in
-    both (leb 1 hops) (leb hops 32) (le-leb 1 hops (omega arith)) (le-leb hops 32 (omega arith))
+    and-both (leb 1 hops) (leb hops 32) (le-leb 1 hops (omega arith)) (le-leb hops 32 (omega arith))
 
 -- an ident of two bytes
 ident-in-field : (s : List ℕ) (at : ℕ) → Bytes s → demandIn s at .ident < 65536

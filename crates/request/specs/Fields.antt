@@ -5,9 +5,10 @@ use mathlib.Core.List.{List}
 use mathlib.Core.Path.{_≡_}
 use lib.ListN.{length, getD, drop}
 use Rattle.grid.specs.declared.Band.{Band}
+use Rattle.grid.specs.Grid.{allowedWidth}
 use Rattle.request.specs.declared.Link.{Link}
 use Rattle.request.specs.View.{DemandView}
-use Rattle.request.specs.Check.{has, allowedWidth, soundRoute}
+use Rattle.request.specs.Check.{has, soundRoute}
 use Rattle.request.specs.Reading.{number16, bandIn, linkIn, demandIn}
 
 -- what a sound field says: it ends within the file, its tag is the one that must stand there, its length is least to most

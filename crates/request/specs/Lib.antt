@@ -3,7 +3,6 @@ pub mod View
 pub mod ViewLaws
 pub mod Check
 pub mod CheckLaws
-pub mod TestLaws
 pub mod Route
 pub mod RouteLaws
 pub mod Steps

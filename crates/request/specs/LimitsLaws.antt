@@ -17,7 +17,7 @@ use Rattle.request.specs.Check.{check}
 use Rattle.request.specs.Sound.{SoundDemand, SoundRequest}
 use Rattle.request.specs.Whole.{Whole, Counted}
 use Rattle.request.specs.Limits.{Limits, AllLimits}
-use Rattle.request.specs.TestLaws.{first-of, second-of}
+use Rattle.theory.specs.TestLaws.{and-first, and-second}
 use Rattle.request.specs.ViewLaws.{demand-shown}
 use Rattle.request.specs.SoundLaws.{check-sound, whole-counted}
 
@@ -25,16 +25,16 @@ use Rattle.request.specs.SoundLaws.{check-sound, whole-counted}
 band-slots : (band : Band) → allowedBand band ≡ true → (1 ≤ band .slots) × (band .slots ≤ 384)
 band-slots band h =
     let S = band .slots in
-    let slots = first-of (allowedSlots S) (allowedGuard (band .guard))
-    (second-of (allowedEdge (band .n0)) (allowedSlots S && allowedGuard (band .guard)) h) in
-    (leb-true 1 S (first-of (leb 1 S) (leb S 384) slots), leb-true S 384 (second-of (leb 1 S) (leb S 384) slots))
+    let slots = and-first (allowedSlots S) (allowedGuard (band .guard))
+    (and-second (allowedEdge (band .n0)) (allowedSlots S && allowedGuard (band .guard)) h) in
+    (leb-true 1 S (and-first (leb 1 S) (leb S 384) slots), leb-true S 384 (and-second (leb 1 S) (leb S 384) slots))
 
 -- and a guard of at most 8
 band-guard : (band : Band) → allowedBand band ≡ true → band .guard ≤ 8
 band-guard band h =
     leb-true (band .guard) 8
-    (second-of (allowedSlots (band .slots)) (allowedGuard (band .guard))
-    (second-of (allowedEdge (band .n0)) (allowedSlots (band .slots) && allowedGuard (band .guard)) h))
+    (and-second (allowedSlots (band .slots)) (allowedGuard (band .guard))
+    (and-second (allowedEdge (band .n0)) (allowedSlots (band .slots) && allowedGuard (band .guard)) h))
 
 -- a sound request keeps its limits
 pub sound-limits : (v : View) → Counted v → SoundRequest v → Limits v

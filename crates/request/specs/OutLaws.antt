@@ -16,7 +16,7 @@ use Rattle.request.specs.declared.Written.the-variants.{Wrote, Refused a
 use Rattle.request.specs.View.{View, view}
 use Rattle.request.specs.Check.{check}
 use Rattle.request.specs.Encoding.{bandField, linkFields, demandFields, encode}
-use Rattle.request.specs.TestLaws.{by-test}
+use Rattle.theory.specs.TestLaws.{by-test}
 use Rattle.request.specs.ReadingLaws.{by-check}
 use Rattle.request.specs.Whole.{Whole}
 use Rattle.request.specs.LimitsLaws.{checked-limits, checked-demands}

@@ -3,9 +3,10 @@ use Prim.Native.Nat.{ℕ}
 use mathlib.Core.Bool.{true, false}
 use mathlib.Core.List.{List, map}
 use mathlib.Core.Path.{_≡_}
+use Rattle.grid.specs.Grid.{allowedWidth}
 use Rattle.request.specs.declared.Link.{Link}
 use Rattle.request.specs.View.{DemandView}
-use Rattle.request.specs.Check.{has, allowedWidth, allowedHops, soundRoute}
+use Rattle.request.specs.Check.{has, allowedHops, soundRoute}
 
 -- the idents of demands
 abbrev pub identsOf : List DemandView → List ℕ

@@ -7,12 +7,12 @@ use lib.Dec.{leb, ltb, eqb}
 use Rattle.refusal.specs.declared.Refusal.{Refusal}
 use Rattle.refusal.specs.declared.Refusal.the-variants.{PastEnd, WrongTag, WrongLength, BandOutside, BadLink, TooManyDemands, BadRoute, IdentUsed, BadWidth, FileTooLong}
 use Rattle.grid.specs.declared.Band.{Band}
-use Rattle.grid.specs.Grid.{allowedBand}
+use Rattle.grid.specs.Grid.{allowedBand, allowedWidth}
 use Rattle.request.specs.declared.Link.{Link}
 use Rattle.request.specs.declared.Checked.{Checked}
 use Rattle.request.specs.declared.Checked.the-variants.{Sound, Refused}
 use Rattle.request.specs.View.{DemandView, View}
-use Rattle.request.specs.Check.{then, has, allowedWidth, soundRoute}
+use Rattle.request.specs.Check.{then, has, soundRoute}
 use Rattle.request.specs.Encoding.{signed16}
 
 -- how a file reads: it is refused, or it is the file of a request
@@ -85,7 +85,7 @@ demandIn s at =
 
 -- a demand after demands of these idents: 6, 8, 9, 7
 unfoldable pub checkNewDemand : ℕ → List Link → List ℕ → ℕ → DemandView → Checked
-unfolding then must has allowedWidth soundRoute
+unfolding then must has soundRoute
 checkNewDemand S links earlier at d =
     then (must (ltb (length earlier) 200) (TooManyDemands at))
     (then (must (not (has (d .ident) earlier)) (IdentUsed at))

@@ -10,7 +10,7 @@ use lib.Dec.{leb, ltb, eqb}
 use Rattle.refusal.specs.declared.Refusal.{Refusal}
 use Rattle.refusal.specs.declared.Refusal.the-variants.{PastEnd, WrongTag, WrongLength, BandOutside}
 use Rattle.grid.specs.Grid.{allowedBand}
-use Rattle.grid.specs.ReplyLaws.{first-of-both, second-of-both}
+use Rattle.theory.specs.TestLaws.{and-first, and-second}
 use Rattle.request.specs.declared.Checked.{Checked}
 use Rattle.request.specs.declared.Checked.the-variants.{Sound, Refused}
 use Rattle.request.specs.Check.{then}
@@ -69,8 +69,8 @@ module _ (s : List ℕ) (at tag least most : ℕ) where
       record {
         within = leb-true _ _ (test-held _ (PastEnd at) (first-sound _ _ sound));
         tagged = eqb-true _ _ (test-held _ (WrongTag at) (first-sound _ _ rest));
-        long-enough = leb-true _ _ (first-of-both _ (leb (number16 s (at + 1)) most) lengths);
-        short-enough = leb-true _ _ (second-of-both (leb least (number16 s (at + 1))) _ lengths);
+        long-enough = leb-true _ _ (and-first _ (leb (number16 s (at + 1)) most) lengths);
+        short-enough = leb-true _ _ (and-second (leb least (number16 s (at + 1))) _ lengths);
       }
 
 -- a file's first field: 2 where there is none

@@ -13,7 +13,7 @@ use mir.Val.{SFits}
 use Rattle.grid.specs.declared.Band.{Band}
 use Rattle.grid.specs.Grid.{allowedEdge, allowedSlots, allowedGuard, allowedBand}
 use Rattle.request.specs.View.{DemandView, View, viewDemand, view, noLink, demandAt}
-use Rattle.request.specs.TestLaws.{first-of}
+use Rattle.theory.specs.TestLaws.{and-first}
 use Rattle.request.specs.Limits.{Limits}
 use Rattle.request.specs.Encoding.{demandField, demandFields, encode}
 use Rattle.request.specs.EncodingLaws.{demand-bytes, file-bytes}
@@ -24,12 +24,12 @@ use Rattle.request.specs.PackingLaws.{take-padded, view-packed}
 pub edge-fits : (n0 : ℤ) → allowedEdge n0 ≡ true → SFits w16 n0
 edge-fits (pos n) allowed = record { sfits = omega (arith, leb-true n 400 allowed) }
 edge-fits (negsuc n) allowed =
-    record { sfits = omega (arith, leb-true n 399 (first-of (leb n 399) true allowed)) }
+    record { sfits = omega (arith, leb-true n 399 (and-first (leb n 399) true allowed)) }
 
 -- and so has that of an allowed band
 pub band-edge : (band : Band) → allowedBand band ≡ true → SFits w16 (band .n0)
 band-edge band allowed =
-    edge-fits (band .n0) (first-of (allowedEdge (band .n0)) (allowedSlots (band .slots) && allowedGuard (band .guard)) allowed)
+    edge-fits (band .n0) (and-first (allowedEdge (band .n0)) (allowedSlots (band .slots) && allowedGuard (band .guard)) allowed)
 
 -- demands packed into an array are seen as they were
 demands-repacked : (demands : List DemandView) → ((k : ℕ) → k < length demands → length (demandAt demands k .route) ≡ demandAt demands k .hops) →

@@ -15,22 +15,22 @@ use Rattle.request.specs.declared.Link.{Link}
 use Rattle.request.specs.View.{linkAt}
 use Rattle.request.specs.Check.{has, listed, once, unbroken, soundRoute}
 use Rattle.request.specs.Route.{RouteHolds, RouteCome}
-use Rattle.request.specs.TestLaws.{by-test, never-both, not-held, first-of, second-of, both, neither, first-fails, second-fails}
+use Rattle.theory.specs.TestLaws.{by-test, not-both, not-true-false, and-first, and-second, and-both, or-neither, or-first, or-second}
 
 -- a number that no position has does not stand in a list
 pub none-has : (x : ℕ) (xs : List ℕ) → ((i : ℕ) → i < length xs → x ≡ getD xs i 0 → ⊥) → has x xs ≡ false
 unfolding has
 none-has x [] none = refl
 none-has x (y ∷ ys) none =
-    neither (eqb x y) (has x ys) (ne-eqb x y (none 0 (omega arith)))
+    or-neither (eqb x y) (has x ys) (ne-eqb x y (none 0 (omega arith)))
     (none-has x ys (λ (i : ℕ) (h : i < length ys) (e : x ≡ getD ys i 0). none (suc i) (omega arith) e))
 
 -- a number that does not stand in a list is at no position of it
 pub has-none : (x : ℕ) (xs : List ℕ) → has x xs ≡ false → (i : ℕ) → i < length xs → x ≡ getD xs i 0 → ⊥
 unfolding has
 has-none x [] none i h e = omega arith
-has-none x (y ∷ ys) none zero h e = eqb-false x y (first-fails (eqb x y) (has x ys) none) e
-has-none x (y ∷ ys) none (suc i) h e = has-none x ys (second-fails (eqb x y) (has x ys) none) i (omega arith) e
+has-none x (y ∷ ys) none zero h e = eqb-false x y (or-first (eqb x y) (has x ys) none) e
+has-none x (y ∷ ys) none (suc i) h e = has-none x ys (or-second (eqb x y) (has x ys) none) i (omega arith) e
 
 -- a number that is at a position of a list stands in it
 pub has-at : (x : ℕ) (xs : List ℕ) (i : ℕ) → i < length xs → x ≡ getD xs i 0 → has x xs ≡ true
@@ -56,15 +56,15 @@ early-none x xs n fits none i h e =
 listed-at : (n : ℕ) (route : List ℕ) → listed n route ≡ true → (p : ℕ) → p < length route → getD route p 0 < n
 unfolding listed
 listed-at n [] all p h = absurd (omega arith)
-listed-at n (a ∷ route) all zero h = ltb-true a n (first-of (ltb a n) (listed n route) all)
-listed-at n (a ∷ route) all (suc p) h = listed-at n route (second-of (ltb a n) (listed n route) all) p (omega arith)
+listed-at n (a ∷ route) all zero h = ltb-true a n (and-first (ltb a n) (listed n route) all)
+listed-at n (a ∷ route) all (suc p) h = listed-at n route (and-second (ltb a n) (listed n route) all) p (omega arith)
 
 -- a route is listed where each position is
 at-listed : (n : ℕ) (route : List ℕ) → ((p : ℕ) → p < length route → getD route p 0 < n) → listed n route ≡ true
 unfolding listed
 at-listed n [] each = refl
 at-listed n (a ∷ route) each =
-    both (ltb a n) (listed n route) (lt-ltb a n (each 0 (omega arith)))
+    and-both (ltb a n) (listed n route) (lt-ltb a n (each 0 (omega arith)))
     (at-listed n route (λ (p : ℕ) (h : p < length route). each (suc p) (omega arith)))
 
 -- a route with no link twice has different links at different positions
@@ -73,16 +73,16 @@ unfolding once
 once-at [] all p q pq h e = omega arith
 once-at (a ∷ route) all p zero pq h e = omega arith
 once-at (a ∷ route) all zero (suc q) pq h e =
-    has-none a route (not-true (has a route) (first-of (not (has a route)) (once route) all)) q (omega arith) e
+    has-none a route (not-true (has a route) (and-first (not (has a route)) (once route) all)) q (omega arith) e
 once-at (a ∷ route) all (suc p) (suc q) pq h e =
-    once-at route (second-of (not (has a route)) (once route) all) p q (omega arith) (omega arith) e
+    once-at route (and-second (not (has a route)) (once route) all) p q (omega arith) (omega arith) e
 
 -- a route whose positions differ has no link twice
 at-once : (route : List ℕ) → ((p q : ℕ) → p < q → q < length route → getD route p 0 ≢ getD route q 0) → once route ≡ true
 unfolding once
 at-once [] differ = refl
 at-once (a ∷ route) differ =
-    both (not (has a route)) (once route)
+    and-both (not (has a route)) (once route)
     (ap not (none-has a route (λ (q : ℕ) (h : q < length route) (e : a ≡ getD route q 0). differ 0 (suc q) (omega arith) (omega arith) e)))
     (at-once route
     (λ (p q : ℕ) (pq : p < q) (h : q < length route) (e : getD route p 0 ≡ getD route q 0).
@@ -96,10 +96,10 @@ unbroken-at links [] all p h = absurd (omega arith)
 unbroken-at links (a ∷ []) all p h = absurd (omega arith)
 unbroken-at links (a ∷ b ∷ route) all zero h =
     eqb-true (linkAt links a .to) (linkAt links b .from)
-    (first-of (eqb (linkAt links a .to) (linkAt links b .from)) (unbroken links (b ∷ route)) all)
+    (and-first (eqb (linkAt links a .to) (linkAt links b .from)) (unbroken links (b ∷ route)) all)
 unbroken-at links (a ∷ b ∷ route) all (suc p) h =
     unbroken-at links (b ∷ route)
-    (second-of (eqb (linkAt links a .to) (linkAt links b .from)) (unbroken links (b ∷ route)) all) p (omega arith)
+    (and-second (eqb (linkAt links a .to) (linkAt links b .from)) (unbroken links (b ∷ route)) all) p (omega arith)
 
 -- a route in which each link begins where the one before ends is unbroken
 at-unbroken : (links : List Link) (route : List ℕ) →
@@ -109,7 +109,7 @@ unfolding unbroken
 at-unbroken links [] joined = refl
 at-unbroken links (a ∷ []) joined = refl
 at-unbroken links (a ∷ b ∷ route) joined =
-    both (eqb (linkAt links a .to) (linkAt links b .from)) (unbroken links (b ∷ route))
+    and-both (eqb (linkAt links a .to) (linkAt links b .from)) (unbroken links (b ∷ route))
     (eq-eqb (linkAt links a .to) (linkAt links b .from) (joined 0 (omega arith)))
     (at-unbroken links (b ∷ route) (λ (p : ℕ) (h : suc p < length (b ∷ route)). joined (suc p) (omega arith)))
 
@@ -119,13 +119,13 @@ pub sound-holds : (links : List Link) (route : List ℕ) → soundRoute links ro
 unfolding soundRoute
 sound-holds links route sound =
     let rest : once route && unbroken links route ≡ true
-    = second-of (listed (length links) route) (once route && unbroken links route) sound in
+    = and-second (listed (length links) route) (once route && unbroken links route) sound in
     record {
-      each-listed = listed-at (length links) route (first-of (listed (length links) route) (once route && unbroken links route) sound);
-      none-twice = once-at route (first-of (once route) (unbroken links route) rest);
+      each-listed = listed-at (length links) route (and-first (listed (length links) route) (once route && unbroken links route) sound);
+      none-twice = once-at route (and-first (once route) (unbroken links route) rest);
       no-gap =
           λ (p : ℕ) (h : p + 1 < length route).
-          rw (add-one p) (unbroken-at links route (second-of (once route) (unbroken links route) rest) p (omega arith));
+          rw (add-one p) (unbroken-at links route (and-second (once route) (unbroken links route) rest) p (omega arith));
     }
 
 -- a route whose positions say so is sound
@@ -133,9 +133,9 @@ pub holds-sound : (links : List Link) (route : List ℕ) → RouteHolds (length 
     soundRoute links route ≡ true
 unfolding soundRoute
 holds-sound links route holds =
-    both (listed (length links) route) (once route && unbroken links route)
+    and-both (listed (length links) route) (once route && unbroken links route)
     (at-listed (length links) route (holds .each-listed))
-    (both (once route) (unbroken links route) (at-once route (holds .none-twice))
+    (and-both (once route) (unbroken links route) (at-once route (holds .none-twice))
     (at-unbroken links route (λ (p : ℕ) (h : suc p < length route). rw (add-one p) at (holds .no-gap p (omega arith)))))
 
 -- of the first 0 entries everything holds
@@ -211,7 +211,7 @@ come-sound links route node p come done =
 pub unlisted-unsound : (links : List Link) (route : List ℕ) (p : ℕ) → p < length route → length links ≤ getD route p 0 →
     soundRoute links route ≡ false
 unlisted-unsound links route p h out =
-    not-held (soundRoute links route)
+    not-true-false (soundRoute links route)
     (λ (sound : soundRoute links route ≡ true).
     let there : getD route p 0 < length links = sound-holds links route sound .each-listed p h in
     omega arith)
@@ -220,9 +220,9 @@ unlisted-unsound links route p h out =
 pub repeated-unsound : (links : List Link) (route : List ℕ) (p : ℕ) → p < length route →
     has (getD route p 0) (take p route) ≡ true → soundRoute links route ≡ false
 repeated-unsound links route p h stood =
-    not-held (soundRoute links route)
+    not-true-false (soundRoute links route)
     (λ (sound : soundRoute links route ≡ true).
-    never-both (has (getD route p 0) (take p route)) stood
+    not-both {C = ⊥} (has (getD route p 0) (take p route)) stood
     (none-early (getD route p 0) route p (omega arith)
     (λ (i : ℕ) (ip : i < p) (e : getD route p 0 ≡ getD route i 0). sound-holds links route sound .none-twice i p ip h (sym e))))
 
@@ -230,10 +230,10 @@ repeated-unsound links route p h stood =
 pub broken-unsound : (links : List Link) (route : List ℕ) (node p : ℕ) → RouteCome links route node p → p < length route →
     eqb p 0 || eqb node (linkAt links (getD route p 0) .from) ≡ false → soundRoute links route ≡ false
 broken-unsound links route node p come h broken =
-    not-held (soundRoute links route)
+    not-true-false (soundRoute links route)
     (λ (sound : soundRoute links route ≡ true).
     let from = linkAt links (getD route p 0) .from in
-    let some : 0 < p = omega (arith, eqb-false p 0 (first-fails (eqb p 0) (eqb node from) broken)) in
+    let some : 0 < p = omega (arith, eqb-false p 0 (or-first (eqb p 0) (eqb node from) broken)) in
     let same : p - 1 + 1 ≡ p = omega arith in
-    eqb-false node from (second-fails (eqb p 0) (eqb node from) broken)
+    eqb-false node from (or-second (eqb p 0) (eqb node from) broken)
     (come .at-node some ∙ rw same at (sound-holds links route sound .no-gap (p - 1) (omega arith))))

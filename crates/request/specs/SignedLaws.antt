@@ -10,7 +10,7 @@ use lib.Signed.{ltZ}
 use mir.Syntax.{w16, w32}
 use mir.Val.{SFits, toZ, ofZ}
 use mir.ValLaws.{toZ-pos, toZ-ofZ, ofZ-toZ, ofZ-fits, toZ-fits}
-use Rattle.grid.specs.ReplyLaws.{by-test}
+use Rattle.theory.specs.TestLaws.{by-test}
 use Rattle.request.specs.Encoding.{bits16, signed16}
 
 -- a number of 16 bits with its highest bit set is below 0

@@ -11,18 +11,18 @@ use lib.Seq.{length-take-le}
 use lib.Dec.{leb, ltb, eqb}
 use Rattle.refusal.specs.declared.Refusal.{Refusal}
 use Rattle.refusal.specs.declared.Refusal.the-variants.{WrongTag, WrongLength, BandOutside, BadLink, TooManyDemands, BadRoute, IdentUsed, BadWidth}
-use Rattle.grid.specs.Grid.{allowedBand}
+use Rattle.grid.specs.Grid.{allowedBand, allowedWidth}
 use Rattle.request.specs.declared.Link.{Link}
 use Rattle.request.specs.declared.Request.{Request}
 use Rattle.request.specs.declared.Checked.{Checked}
 use Rattle.request.specs.declared.Checked.the-variants.{Sound, Refused}
 use Rattle.request.specs.View.{DemandView, View, view, viewDemand, linkAt, demandAt, noDemand}
-use Rattle.request.specs.Check.{then, has, soundRoute, allowedWidth, allowedHops, checkBand, checkSomeLink, checkLinks, checkLinkCount, checkDemand, checkDemands, checkDemandCount, check}
+use Rattle.request.specs.Check.{then, has, soundRoute, allowedHops, checkBand, checkSomeLink, checkLinks, checkLinkCount, checkDemand, checkDemands, checkDemandCount, check}
 use Rattle.request.specs.Sound.{SoundDemand, SoundRequest}
 use Rattle.request.specs.Route.{RouteHolds}
 use Rattle.request.specs.Passes.{identsOf, Passes}
 use Rattle.request.specs.Whole.{Whole, Counted}
-use Rattle.request.specs.TestLaws.{both}
+use Rattle.theory.specs.TestLaws.{and-both}
 use Rattle.request.specs.ViewLaws.{links-shown, demands-shown, demand-shown}
 use Rattle.request.specs.RouteLaws.{none-early, early-none, sound-holds, holds-sound}
 use Rattle.request.specs.CheckLaws.{then-sound, first-sound, next-sound, band-passes, some-link, few-links, links-counted, few-demands, width-allowed, hops-allowed, demand-passes}
@@ -143,7 +143,7 @@ passes-sound S count links earlier d all routed pass =
 sound-demand-passes : (S count : ℕ) (links : List Link) (earlier : List ℕ) (d : DemandView) → length links ≡ count →
     (d .hops ≤ 32 → length (d .route) ≡ d .hops) → has (d .ident) earlier ≡ false → SoundDemand S count (linkAt links) d →
     Passes S links earlier d
-unfolding allowedWidth allowedHops
+unfolding allowedHops
 sound-demand-passes S count links earlier d all routed new sound =
     let size : length (d .route) ≡ d .hops = routed (sound .at-most-32-hops) in
     let holds : RouteHolds count (linkAt links) (d .route) (d .hops)
@@ -151,9 +151,9 @@ sound-demand-passes S count links earlier d all routed new sound =
     record {
       ident-new = new;
       width-allowed =
-          both (leb 1 (d .width)) (leb (d .width) S) (le-leb 1 (d .width) (sound .some-width)) (le-leb (d .width) S (sound .width-in-band));
+          and-both (leb 1 (d .width)) (leb (d .width) S) (le-leb 1 (d .width) (sound .some-width)) (le-leb (d .width) S (sound .width-in-band));
       hops-allowed =
-          both (leb 1 (d .hops)) (leb (d .hops) 32) (le-leb 1 (d .hops) (sound .some-hop)) (le-leb (d .hops) 32 (sound .at-most-32-hops));
+          and-both (leb 1 (d .hops)) (leb (d .hops) 32) (le-leb 1 (d .hops) (sound .some-hop)) (le-leb (d .hops) 32 (sound .at-most-32-hops));
       route-sound = holds-sound links (d .route) (rw (all, size) holds);
     }
 

@@ -8,8 +8,9 @@ use grid::Band;
 use refusal::Refusal;
 ghost use mathlib.Core.Path.{_≡_};
 ghost use lib.ListN.{take};
+ghost use Rattle.grid.specs.Grid.{allowedWidth};
 ghost use Rattle.request.specs.View.{view, viewDemand};
-ghost use Rattle.request.specs.Check.{has, allowedWidth, allowedHops, soundRoute, checkDemand, check};
+ghost use Rattle.request.specs.Check.{has, allowedHops, soundRoute, checkDemand, check};
 ghost use Rattle.request.specs.Steps.{checkAllLinks, checkGround};
 
 // Whether a request is sound, or the first fault in the order of its checks: the band, the links one by one, the demands one

@@ -32,6 +32,20 @@ outcomeTold theory.nothing-fits = NothingFits
 outcomeTold (theory.unfinished e) = Unfinished e
 outcomeTold theory.unfinished-empty = UnfinishedEmpty
 
+-- what an outcome says: which of the four it is
+unfoldable pub outcomeNumber : Outcome → ℕ
+outcomeNumber (Finished e) = 0
+outcomeNumber NothingFits = 1
+outcomeNumber (Unfinished e) = 2
+outcomeNumber UnfinishedEmpty = 3
+
+-- and the end of its plan, 0 without one
+unfoldable pub outcomeEnd : Outcome → ℕ
+outcomeEnd (Finished e) = e
+outcomeEnd NothingFits = 0
+outcomeEnd (Unfinished e) = e
+outcomeEnd UnfinishedEmpty = 0
+
 -- the outcome by whether the steps were spent, and whether a plan was met, which ends at the mark
 unfoldable pub outcomeBy : Bool → Bool → ℕ → Outcome
 outcomeBy false false mark = NothingFits

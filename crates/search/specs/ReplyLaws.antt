@@ -19,6 +19,7 @@ use Rattle.request.specs.declared.Checked.the-variants.{Sound, Refused}
 use Rattle.request.specs.View.{View}
 use Rattle.request.specs.Check.{then, check}
 use Rattle.request.specs.CheckLaws.{then-sound, then-refused, first-sound, next-sound}
+use Rattle.request.specs.SoundLaws.{not-refused}
 use Rattle.placing.specs.declared.BoundReply.the-variants as bound-reply
 use Rattle.placing.specs.Placing.{boundOf}
 use Rattle.placing.specs.Reply.{boundReply}
@@ -49,11 +50,6 @@ pub room-enough : (K a b : ℕ) → K ≤ 20 → K ≤ a → K ≤ b → Sound �
 unfolding checkRoom then
 room-enough K a b h k l = rw (le-ltb 20 K h, le-ltb a K k, le-ltb b K l)
 
--- a check that refuses where a test holds passed: the test does not hold
-passed-not : (t : Bool) (why : Refusal) → cond t (Refused why) Sound ≡ Sound → t ≡ false
-passed-not true why h = absurd (let z : _≡_ {A = ℕ} 0 1 = cc in omega arith)
-passed-not false why h = refl
-
 -- a search that passed its tests is one of a sound request of at most 20 demands, and both buffers have room
 pub passed-searchable : (v : View) (a b : ℕ) → checkSearch v a b ≡ Sound → Searchable v
 unfolding checkSearch checkRoom
@@ -61,7 +57,7 @@ passed-searchable v a b h =
     record {
       sound = first-sound (check v) (checkRoom (v .demandCount) a b) h;
       few = ltb-false 20 (v .demandCount)
-          (passed-not (ltb 20 (v .demandCount)) (TooManyToSearch (v .demandCount))
+          (not-refused (ltb 20 (v .demandCount)) (TooManyToSearch (v .demandCount))
           (first-sound (cond (ltb 20 (v .demandCount)) (Refused (TooManyToSearch (v .demandCount))) Sound) (room-buffers v a b)
           (next-sound (check v) (checkRoom (v .demandCount) a b) h)));
     }
@@ -73,7 +69,7 @@ pub passed-starts : (v : View) (a b : ℕ) → checkSearch v a b ≡ Sound → v
 unfolding checkSearch checkRoom
 passed-starts v a b h =
     ltb-false a K
-    (passed-not (ltb a K) (BufferShort K)
+    (not-refused (ltb a K) (BufferShort K)
     (first-sound (cond (ltb a K) (Refused (BufferShort K)) Sound) (cond (ltb b K) (Refused (BufferShort K)) Sound)
     (next-sound (cond (ltb 20 K) (Refused (TooManyToSearch K)) Sound)
     (then (cond (ltb a K) (Refused (BufferShort K)) Sound) (cond (ltb b K) (Refused (BufferShort K)) Sound))
@@ -86,7 +82,7 @@ pub passed-order : (v : View) (a b : ℕ) → checkSearch v a b ≡ Sound → v 
 unfolding checkSearch checkRoom
 passed-order v a b h =
     ltb-false b K
-    (passed-not (ltb b K) (BufferShort K)
+    (not-refused (ltb b K) (BufferShort K)
     (next-sound (cond (ltb a K) (Refused (BufferShort K)) Sound) (cond (ltb b K) (Refused (BufferShort K)) Sound)
     (next-sound (cond (ltb 20 K) (Refused (TooManyToSearch K)) Sound)
     (then (cond (ltb a K) (Refused (BufferShort K)) Sound) (cond (ltb b K) (Refused (BufferShort K)) Sound))

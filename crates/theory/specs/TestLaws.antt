@@ -1,5 +1,5 @@
--- Splitting on a test, and taking a conjunction of tests apart.
-use mathlib.Core.Bool.{Bool, true, false, _&&_, false≢true}
+-- Laws of tests, which every crate cites: splitting on a test, and taking two tests apart that are joined by && or ||.
+use mathlib.Core.Bool.{Bool, true, false, _&&_, _||_, false≢true}
 use mathlib.Core.Path.{_≡_, refl, sym}
 
 -- a test is true or false, and either case may use which
@@ -36,3 +36,18 @@ not-true-false false h = refl
 pub not-false-true : (b : Bool) → (b ≡ false → ⊥) → b ≡ true
 not-false-true true h = refl
 not-false-true false h = absurd (h refl)
+
+-- both tests false make the alternative false
+pub or-neither : (a b : Bool) → a ≡ false → b ≡ false → (a || b) ≡ false
+or-neither true b p q = p
+or-neither false b p q = q
+
+-- a false alternative has a false first test
+pub or-first : (a b : Bool) → (a || b) ≡ false → a ≡ false
+or-first true b p = p
+or-first false b p = refl
+
+-- a false alternative has a false second test
+pub or-second : (a b : Bool) → (a || b) ≡ false → b ≡ false
+or-second true b p = not-both true refl p
+or-second false b p = p

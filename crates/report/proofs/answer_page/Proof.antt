@@ -2,9 +2,10 @@
 use mathlib.Core.Path.{ap, sym, _∙_}
 use borrow.Author.Needs.{needs}
 use Rattle.search.specs.declared.Outcome.the-variants.{Finished, NothingFits, Unfinished, UnfinishedEmpty}
+use Rattle.search.specs.Reply.{outcomeEnd}
 use Rattle.report.specs.Text.{pageOf}
 use Rattle.report.specs.Lines.{finished-word, nofit-word, unfinished-word}
-use Rattle.report.specs.Report.{wordOf, endShown}
+use Rattle.report.specs.Report.{wordOf}
 use Rattle.report.specs.ReportLaws.{answer-told}
 use Rattle.report.proofs.answer_page.Statement.{statement}
 use Rattle.report.proofs.answer_page.Tie as tie
@@ -58,25 +59,25 @@ answer-line-requires-4 : tie.Need-answer-line-requires-4
 answer-line-requires-4 c κs = search needs
 
 returns : tie.Need-returns
-unfolding wordOf endShown finished-word
+unfolding wordOf outcomeEnd finished-word
 returns c =
     let told = answer-told (c .before .before .before .before .before .before .before .args .answer) (Finished (c .before .before .before .outcome .given .0 .0)) (c .before .before .before .outcome .given .1) in
     (c .answer-line .ensures .0 ∙ ap pageOf (sym told), c .answer-line .ensures .1)
 
 returns-2 : tie.Need-returns-2
-unfolding wordOf endShown nofit-word
+unfolding wordOf outcomeEnd nofit-word
 returns-2 c =
     let told = answer-told (c .before .before .before .before .before .before .args .answer) NothingFits (c .before .before .enum-told .given .1) in
     (c .answer-line2 .ensures .0 ∙ ap pageOf (sym told), c .answer-line2 .ensures .1)
 
 returns-3 : tie.Need-returns-3
-unfolding wordOf endShown unfinished-word
+unfolding wordOf outcomeEnd unfinished-word
 returns-3 c =
     let told = answer-told (c .before .before .before .before .before .before .before .args .answer) (Unfinished (c .before .before .before .outcome2 .given .0 .0)) (c .before .before .before .outcome2 .given .1) in
     (c .answer-line3 .ensures .0 ∙ ap pageOf (sym told), c .answer-line3 .ensures .1)
 
 returns-4 : tie.Need-returns-4
-unfolding wordOf endShown unfinished-word
+unfolding wordOf outcomeEnd unfinished-word
 returns-4 c =
     let told = answer-told (c .before .before .before .before .before .before .args .answer) UnfinishedEmpty (c .before .before .enum-told2 .given .1) in
     (c .answer-line4 .ensures .0 ∙ ap pageOf (sym told), c .answer-line4 .ensures .1)

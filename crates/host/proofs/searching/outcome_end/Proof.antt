@@ -1,6 +1,6 @@
 -- `host::searching::outcome_end` meets its contract, outcome by outcome. Assumes nothing.
 use mathlib.Core.Path.{sym, ap}
-use Rattle.host.specs.Host.{outcomeEnd}
+use Rattle.search.specs.Reply.{outcomeEnd}
 use borrow.Author.Needs.{needs}
 use Rattle.host.proofs.searching.outcome_end.Statement.{statement}
 use Rattle.host.proofs.searching.outcome_end.Tie as tie

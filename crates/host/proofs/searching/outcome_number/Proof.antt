@@ -1,6 +1,6 @@
 -- `host::searching::outcome_number` meets its contract, outcome by outcome. Assumes nothing.
 use mathlib.Core.Path.{sym, ap}
-use Rattle.host.specs.Host.{outcomeNumber}
+use Rattle.search.specs.Reply.{outcomeNumber}
 use borrow.Author.Needs.{needs}
 use Rattle.host.proofs.searching.outcome_number.Statement.{statement}
 use Rattle.host.proofs.searching.outcome_number.Tie as tie
