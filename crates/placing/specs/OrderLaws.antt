@@ -148,7 +148,7 @@ order-arranges K order sound =
     (λ j m. listing-mem K j (entries-new K [] 0 order entries j m .0))
 
 -- what stands at an index stands in the list
-getD-mem : (list : List ℕ) (m : ℕ) → m < length list → List·Memᴰ (getD list m 0) list
+pub getD-mem : (list : List ℕ) (m : ℕ) → m < length list → List·Memᴰ (getD list m 0) list
 getD-mem [] m h = absurd (omega arith)
 getD-mem (x ∷ list) zero h = List·Memᴰ·head refl
 getD-mem (x ∷ list) (suc m) h = List·Memᴰ·tail (getD-mem list m (omega arith))

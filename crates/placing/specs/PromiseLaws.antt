@@ -63,7 +63,7 @@ bound-promise q whole b e starts allowed =
     (plan-above-bound (view q) (check-sound (view q) (whole-counted q whole) passes) (limits .demands-there) (limits .routes-there) starts allowed)
 
 -- a plan's end in reply: the tests passed, and it is the reply to the fitting
-end-given : (c : Checked) (reply : PlacedReply) (end : ℕ) → placedAfter c reply ≡ placed-reply.Placed end →
+pub end-given : (c : Checked) (reply : PlacedReply) (end : ℕ) → placedAfter c reply ≡ placed-reply.Placed end →
     (c ≡ checked.Sound) × (reply ≡ placed-reply.Placed end)
 unfolding placedAfter
 end-given checked.Sound reply end e = (refl, e)
@@ -93,7 +93,7 @@ apart-by front K k long h = omega arith
 
 module _ (v : View) (order starts : List ℕ) (tested : checkFirstFit v order starts ≡ checked.Sound) where
   -- what the tests leave to know
-  request-sound : check v ≡ checked.Sound
+  pub request-sound : check v ≡ checked.Sound
   unfolding checkFirstFit
   request-sound = first-sound (check v) (then (checkOrder (v .demandCount) order) (checkRoom (v .demandCount) starts)) tested
 
@@ -103,7 +103,7 @@ module _ (v : View) (order starts : List ℕ) (tested : checkFirstFit v order st
       first-sound (checkOrder (v .demandCount) order) (checkRoom (v .demandCount) starts)
       (next-sound (check v) (then (checkOrder (v .demandCount) order) (checkRoom (v .demandCount) starts)) tested)
 
-  room-enough : v .demandCount ≤ length starts
+  pub room-enough : v .demandCount ≤ length starts
   unfolding checkFirstFit
   room-enough =
       room-there (v .demandCount) starts

@@ -10,7 +10,6 @@ use Rattle.request.specs.declared.Request.{Request}
 use Rattle.request.specs.declared.Checked.{Checked}
 use Rattle.request.specs.declared.Checked.the-variants.{Sound, Refused}
 use Rattle.request.specs.View.{View, view}
-use Rattle.request.specs.Check.{check}
 use Rattle.request.specs.Sound.{SoundRequest}
 use Rattle.request.specs.Whole.{Whole, Counted}
 use Rattle.request.specs.SoundLaws.{check-sound, sound-check, whole-counted}
@@ -19,6 +18,9 @@ use Rattle.placing.specs.Placing.{problemOf, boundOf}
 use Rattle.placing.specs.Plan.{startAt, AllowedPlan, endOfPlan}
 use Rattle.placing.specs.PlanLaws.{slots-to-ends, ends-to-slots}
 use Rattle.placing.specs.BoundLaws.{plan-above-bound}
+use Rattle.placing.specs.declared.PlacedReply.the-variants.{Placed}
+use Rattle.placing.specs.FirstFit.{checkFirstFit, fitted, fittedReply, firstFitReply, firstFitStarts}
+use Rattle.placing.specs.PromiseLaws.{end-given, request-sound, room-enough, first-fit-promise}
 use Rattle.plan.specs.declared.CheckReply.{CheckReply}
 use Rattle.plan.specs.declared.CheckReply.the-variants.{Accepted}
 use Rattle.plan.specs.CheckStarts.{checkStarts, replyWith, startsReply}
@@ -82,6 +84,22 @@ module _ (r : Request) (whole : Whole r) (starts : List ℕ) where
   pub best-at-the-bound : startsReply (view r) starts ≡ Accepted (boundOf (view r)) →
       (others : List ℕ) → AllowedPlan (view r) others → endOfPlan (view r) starts ≤ endOfPlan (view r) others
   best-at-the-bound = bound-certifies (view r) (whole-counted r whole) starts
+
+-- first fit's plan is accepted, with its end
+pub first-fit-accepted : (r : Request) → Whole r → (order starts : List ℕ) (end : ℕ) → firstFitReply (view r) order starts ≡ Placed end →
+    startsReply (view r) (firstFitStarts (view r) order starts) ≡ Accepted end
+unfolding firstFitReply
+first-fit-accepted r whole order starts end h =
+    let v = view r in
+    let tested = end-given (checkFirstFit v order starts) (fittedReply (problemOf v) (fitted v order)) end h .0 in
+    let plan = first-fit-promise r whole order starts end h in
+    allowed-accepted v (whole-counted r whole) (firstFitStarts v order starts)
+    (record {
+      request-sound = check-sound v (whole-counted r whole) (request-sound v order starts tested);
+      enough-starts = omega (arith, plan .as-long, room-enough v order starts tested);
+      plan-allowed = plan .allowed;
+    })
+    ∙ ap Accepted (sym (plan .ends))
 
 -- two results that meet the contract of `check_starts` are equal
 pub same-check : (v : View) (starts : List ℕ) (a a′ : CheckReply) → a ≡ startsReply v starts → a′ ≡ startsReply v starts → a ≡ a′

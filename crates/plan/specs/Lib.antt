@@ -12,3 +12,11 @@ pub mod PlanReadingLaws
 pub mod PlanPacking
 pub mod PlanPackingLaws
 pub mod PlanRowsLaws
+pub mod RoundTrip
+pub mod AlikeLaws
+pub mod RowsInFile
+pub mod RowsInFileLaws
+pub mod InOrderLaws
+pub mod RowsBackLaws
+pub mod RowsEncodedLaws
+pub mod RoundTripLaws

@@ -6,7 +6,8 @@ use native.Mathlib.Omega.{arith}
 use native.Mathlib.Numerals.{add-one}
 use lib.ListN.{length, drop, set, length-append, drop-of-length-le}
 use lib.Seq.{sets, sets-eq, drop-cons}
-use borrow.Author.Tests.{le-leb, lt-leb}
+use lib.Dec.{leb}
+use borrow.Author.Tests.{leb-true, le-leb, lt-leb}
 use Rattle.refusal.specs.declared.Refusal.{Refusal}
 use Rattle.refusal.specs.declared.Refusal.the-variants.{BufferShort}
 use Rattle.request.specs.declared.Checked.{Checked}
@@ -17,6 +18,7 @@ use Rattle.request.specs.View.{DemandView, View, demandAt, noDemand}
 use Rattle.request.specs.Encoding.{twoBytes, field}
 use Rattle.request.specs.Writing.{writeReply, filled}
 use Rattle.request.specs.WritingLaws.{sets-then}
+use Rattle.request.specs.TestLaws.{by-test}
 use Rattle.placing.specs.Plan.{startAt}
 use Rattle.plan.specs.CheckStarts.{checkStarts}
 use Rattle.plan.specs.PlanFile.{rowField, rowFields, encodePlan, planWritten, planOut}
@@ -73,6 +75,15 @@ stored-front out file h =
     let e : 0 + length file ≡ length file = omega arith in
     sets-eq file out 0 (omega arith) ∙ ap (λ (n : ℕ). file ++ drop n out) e
 
+-- an answer of bytes comes from a check that passes and a buffer with room for them
+reply-wrote : (x : Checked) (needed room bytes : ℕ) → writeReply x needed room ≡ Wrote bytes → (x ≡ Sound) × (bytes ≡ needed) × (needed ≤ room)
+unfolding writeReply
+reply-wrote (Refused why) needed room bytes h = absurd (let z : _≡_ {A = ℕ} 0 1 = cc in omega arith)
+reply-wrote Sound needed room bytes h =
+    by-test (leb needed room)
+    (λ t. let same : Wrote needed ≡ Wrote bytes = rw t at h in (refl, cc, leb-true needed room t))
+    (λ f. let no : Unwritten (BufferShort needed) ≡ Wrote bytes = rw f at h in absurd (let z : _≡_ {A = ℕ} 0 1 = cc in omega arith))
+
 module _ (v : View) (starts out : List ℕ) where
   -- a plan that the check refuses is refused for the same
   pub plan-unwritten : (why : Refusal) → checkStarts v starts ≡ Refused why → planWritten v starts out ≡ Unwritten why
@@ -90,6 +101,12 @@ module _ (v : View) (starts out : List ℕ) where
       planWritten v starts out ≡ Wrote (length (encodePlan v starts))
   unfolding planWritten writeReply
   plan-wrote h room = rw (h, le-leb (length (encodePlan v starts)) (length out) room)
+
+  -- what an answer of bytes says: the check accepts, they are the file's, and there was room
+  pub plan-wrote-says : (bytes : ℕ) → planWritten v starts out ≡ Wrote bytes →
+      (checkStarts v starts ≡ Sound) × (bytes ≡ length (encodePlan v starts)) × (length (encodePlan v starts) ≤ length out)
+  unfolding planWritten
+  plan-wrote-says bytes h = reply-wrote (checkStarts v starts) (length (encodePlan v starts)) (length out) bytes h
 
   -- a refusal leaves the buffer as it was
   pub out-unwritten : (why : Refusal) → planWritten v starts out ≡ Unwritten why → planOut v starts out ≡ out

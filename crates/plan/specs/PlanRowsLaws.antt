@@ -10,12 +10,11 @@ use borrow.Author.Tests.{ltb-true, leb-true, eqb-true, not-true}
 use Rattle.refusal.specs.declared.Refusal.{Refusal}
 use Rattle.refusal.specs.declared.Refusal.the-variants.{UnknownIdent, IdentSeen, NoRow, EndAbove}
 use Rattle.theory.specs.Problem.{Row, startIn}
-use Rattle.theory.specs.Orders.{listing}
 use Rattle.request.specs.declared.Checked.{Checked}
 use Rattle.request.specs.declared.Checked.the-variants.{Sound, Refused}
 use Rattle.request.specs.View.{View, demandAt}
 use Rattle.request.specs.Check.{then}
-use Rattle.request.specs.CheckLaws.{first-sound, next-sound}
+use Rattle.request.specs.CheckLaws.{then-sound, first-sound, next-sound}
 use Rattle.request.specs.TestLaws.{by-test}
 use Rattle.request.specs.Reading.{must, fieldEnd, checkField}
 use Rattle.request.specs.ReadingLaws.{test-held}
@@ -72,7 +71,7 @@ within-more v rows r here before k h =
     subst (λ (n : ℕ). n + demandAt (v .demands) k .width ≤ v .band .slots) (sym (ap (λ (b : Bool). cond b (r .at) (startIn rows k)) f)) (before k later))
 
 -- a reading that goes on after a check has passed it
-next-passed : (x : Checked) (rest : RowsRead) (out : List Row) → nextRows x rest ≡ rowsRead out → (x ≡ Sound) × (rest ≡ rowsRead out)
+pub next-passed : (x : Checked) (rest : RowsRead) (out : List Row) → nextRows x rest ≡ rowsRead out → (x ≡ Sound) × (rest ≡ rowsRead out)
 unfolding nextRows
 next-passed Sound rest out h = (refl, h)
 next-passed (Refused why) rest out h = absurd (let z : _≡_ {A = ℕ} 0 1 = cc in omega arith)
@@ -112,16 +111,29 @@ pub whole-given : (v : View) (has : List Bool) (starts : List ℕ) → checkWhol
 unfolding checkWhole
 whole-given v has starts h = first-sound (checkGiven 0 has) (checkClashes (problemOf v) starts [] 0 (v .demands)) h
 
--- so the starts that the rows of a file give pass 17
+-- so each demand has a row
+pub given-all : (K : ℕ) (rows : List Row) → checkGiven 0 (givenTo K rows) ≡ Sound → (p : ℕ) → p < K → given rows p ≡ true
+unfolding givenTo
+given-all K rows whole p h =
+    sym (listing-at (given rows) K p false h) ∙ given-each 0 (givenTo K rows) whole p (omega (arith, made-length (given rows) K))
+
+-- where each position has a row, none is missing
+pub each-given : (k : ℕ) (l : List Bool) → ((p : ℕ) → p < length l → getD l p false ≡ true) → checkGiven k l ≡ Sound
+unfolding checkGiven must
+each-given k [] h = refl
+each-given k (here ∷ later) h =
+    then-sound (must here (NoRow k)) (checkGiven (k + 1) later) (ap (λ (b : Bool). cond b Sound (Refused (NoRow k))) (h 0 (omega arith)))
+    ∙ each-given (k + 1) later (λ p b. h (suc p) (omega arith))
+
+-- and the starts that the rows of a file give pass 17
 pub rows-ends : (v : View) (s : List ℕ) (rows : List Row) → length (v .demands) ≡ v .demandCount → readRows 201 v s 0 [] ≡ rowsRead rows →
     checkGiven 0 (givenTo (v .demandCount) rows) ≡ Sound → checkEnds (v .band .slots) (startsTo (v .demandCount) rows) 0 (v .demands) ≡ Sound
-unfolding givenTo given
+unfolding given
 rows-ends v s rows counted read whole =
     let K = v .demandCount in
     within-ends (v .band .slots) (startsTo K rows) 0 (v .demands)
     (λ p h.
-    let has : given rows p ≡ true =
-    sym (listing-at (given rows) K p false (omega arith)) ∙ given-each 0 (givenTo K rows) whole p (omega (arith, made-length (given rows) K)) in
+    let has : given rows p ≡ true = given-all K rows whole p (omega arith) in
     let start : startAt (startsTo K rows) (0 + p) ≡ startIn rows p = ap (startAt (startsTo K rows)) (omega arith) ∙ start-given K rows p (omega arith) in
     subst (λ (n : ℕ). n + demandAt (v .demands) p .width ≤ v .band .slots) (sym start)
     (read-within 201 v s 0 [] rows read (λ k none. absurd (let z : _≡_ {A = ℕ} 0 1 = cc in omega arith)) p has))
