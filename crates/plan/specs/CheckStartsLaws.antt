@@ -132,50 +132,6 @@ none-clash P starts rows k (d ∷ demands) clear apart-each =
     (subst (λ (n : ℕ). apart P (k + suc p) (startAt starts (k + suc p)) n (startAt starts n) ≡ true) (omega arith)
     (apart-each (suc p) (suc q) (omega arith) (omega arith)))))
 
-module _ (v : View) (starts : List ℕ) (counted : length (v .demands) ≡ v .demandCount) where
-  -- 17 and 18 pass: the plan is allowed by its ends and starts
-  pub places-allowed : checkPlaces v starts ≡ Sound →
-      Allowed (problemOf v) (v .band .slots) [] (listing (v .demandCount)) (startAt starts)
-  unfolding checkPlaces problemOf endOf
-  places-allowed h =
-      record {
-        within = λ i m. each-within (v .band .slots) starts (v .demands)
-            (first-sound (checkEnds (v .band .slots) starts 0 (v .demands)) (checkClashes (problemOf v) starts [] 0 (v .demands)) h)
-            i (omega (arith, listing-below (v .demandCount) i m));
-        clear-of-rows = λ i m. fits-nil (problemOf v) i (startAt starts i);
-        clear-of-others = λ i j m n different.
-            by-test (ltb i j)
-            (λ t. ordered i j (ltb-true i j t) (listing-below (v .demandCount) j n))
-            (λ f. apart-swap (problemOf v) i (startAt starts i) j (startAt starts j) (share-swap (demandAt (v .demands) i .route) (demandAt (v .demands) j .route))
-            ∙ ordered j i (strictly i j different (ltb-false i j f)) (listing-below (v .demandCount) i m));
-      }
-    where
-      strictly : (i j : ℕ) → i ≢ j → j ≤ i → j < i
-      strictly i j different l = omega arith
-
-      ordered : (i j : ℕ) → i < j → j < v .demandCount → apart (problemOf v) i (startAt starts i) j (startAt starts j) ≡ true
-      ordered i j a b =
-          subst (λ (n : ℕ). apart (problemOf v) n (startAt starts n) j (startAt starts j) ≡ true) (omega arith)
-          (subst (λ (n : ℕ). apart (problemOf v) (0 + i) (startAt starts (0 + i)) n (startAt starts n) ≡ true) (omega arith)
-          (clashes-none (problemOf v) starts [] 0 (v .demands)
-          (next-sound (checkEnds (v .band .slots) starts 0 (v .demands)) (checkClashes (problemOf v) starts [] 0 (v .demands)) h)
-          i (omega arith) .1 j a (omega arith)))
-
-  -- the plan is allowed by its ends and starts: 17 and 18 pass
-  pub allowed-places : Allowed (problemOf v) (v .band .slots) [] (listing (v .demandCount)) (startAt starts) →
-      checkPlaces v starts ≡ Sound
-  unfolding checkPlaces problemOf endOf
-  allowed-places plan =
-      both-sound (checkEnds (v .band .slots) starts 0 (v .demands)) (checkClashes (problemOf v) starts [] 0 (v .demands))
-      (within-ends (v .band .slots) starts 0 (v .demands)
-      (λ p l. subst (λ (n : ℕ). startAt starts n + demandAt (v .demands) p .width ≤ v .band .slots) (omega arith)
-      (plan .within p (listing-mem (v .demandCount) p (omega arith)))))
-      (none-clash (problemOf v) starts [] 0 (v .demands)
-      (λ p l. fits-nil (problemOf v) (0 + p) (startAt starts (0 + p)))
-      (λ p q a b. subst (λ (n : ℕ). apart (problemOf v) n (startAt starts n) (0 + q) (startAt starts (0 + q)) ≡ true) (omega arith)
-      (subst (λ (n : ℕ). apart (problemOf v) p (startAt starts p) n (startAt starts n) ≡ true) (omega arith)
-      (plan .clear-of-others p q (listing-mem (v .demandCount) p (omega arith)) (listing-mem (v .demandCount) q (omega arith)) (omega arith)))))
-
 module _ (v : View) (starts : List ℕ) where
   -- a refused request is refused for the same
   pub request-refused : (why : Refusal) → check v ≡ Refused why → checkStarts v starts ≡ Refused why
@@ -226,3 +182,47 @@ module _ (v : View) (starts : List ℕ) where
         first-sound ends clashes placed,
         placed,
       )
+
+module _ (v : View) (starts : List ℕ) (counted : length (v .demands) ≡ v .demandCount) where
+  -- 17 and 18 pass: the plan is allowed by its ends and starts
+  pub places-allowed : checkPlaces v starts ≡ Sound →
+      Allowed (problemOf v) (v .band .slots) [] (listing (v .demandCount)) (startAt starts)
+  unfolding checkPlaces problemOf endOf
+  places-allowed h =
+      record {
+        within = λ i m. each-within (v .band .slots) starts (v .demands)
+            (first-sound (checkEnds (v .band .slots) starts 0 (v .demands)) (checkClashes (problemOf v) starts [] 0 (v .demands)) h)
+            i (omega (arith, listing-below (v .demandCount) i m));
+        clear-of-rows = λ i m. fits-nil (problemOf v) i (startAt starts i);
+        clear-of-others = λ i j m n different.
+            by-test (ltb i j)
+            (λ t. ordered i j (ltb-true i j t) (listing-below (v .demandCount) j n))
+            (λ f. apart-swap (problemOf v) i (startAt starts i) j (startAt starts j) (share-swap (demandAt (v .demands) i .route) (demandAt (v .demands) j .route))
+            ∙ ordered j i (strictly i j different (ltb-false i j f)) (listing-below (v .demandCount) i m));
+      }
+    where
+      strictly : (i j : ℕ) → i ≢ j → j ≤ i → j < i
+      strictly i j different l = omega arith
+
+      ordered : (i j : ℕ) → i < j → j < v .demandCount → apart (problemOf v) i (startAt starts i) j (startAt starts j) ≡ true
+      ordered i j a b =
+          subst (λ (n : ℕ). apart (problemOf v) n (startAt starts n) j (startAt starts j) ≡ true) (omega arith)
+          (subst (λ (n : ℕ). apart (problemOf v) (0 + i) (startAt starts (0 + i)) n (startAt starts n) ≡ true) (omega arith)
+          (clashes-none (problemOf v) starts [] 0 (v .demands)
+          (next-sound (checkEnds (v .band .slots) starts 0 (v .demands)) (checkClashes (problemOf v) starts [] 0 (v .demands)) h)
+          i (omega arith) .1 j a (omega arith)))
+
+  -- the plan is allowed by its ends and starts: 17 and 18 pass
+  pub allowed-places : Allowed (problemOf v) (v .band .slots) [] (listing (v .demandCount)) (startAt starts) →
+      checkPlaces v starts ≡ Sound
+  unfolding checkPlaces problemOf endOf
+  allowed-places plan =
+      both-sound (checkEnds (v .band .slots) starts 0 (v .demands)) (checkClashes (problemOf v) starts [] 0 (v .demands))
+      (within-ends (v .band .slots) starts 0 (v .demands)
+      (λ p l. subst (λ (n : ℕ). startAt starts n + demandAt (v .demands) p .width ≤ v .band .slots) (omega arith)
+      (plan .within p (listing-mem (v .demandCount) p (omega arith)))))
+      (none-clash (problemOf v) starts [] 0 (v .demands)
+      (λ p l. fits-nil (problemOf v) (0 + p) (startAt starts (0 + p)))
+      (λ p q a b. subst (λ (n : ℕ). apart (problemOf v) n (startAt starts n) (0 + q) (startAt starts (0 + q)) ≡ true) (omega arith)
+      (subst (λ (n : ℕ). apart (problemOf v) p (startAt starts p) n (startAt starts n) ≡ true) (omega arith)
+      (plan .clear-of-others p q (listing-mem (v .demandCount) p (omega arith)) (listing-mem (v .demandCount) q (omega arith)) (omega arith)))))
