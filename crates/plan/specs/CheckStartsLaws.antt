@@ -22,33 +22,22 @@ use Rattle.request.specs.View.{DemandView, View, demandAt}
 use Rattle.request.specs.Check.{then, check}
 use Rattle.request.specs.CheckLaws.{then-sound, then-refused, first-sound, next-sound}
 use Rattle.placing.specs.Placing.{problemOf}
+use Rattle.request.specs.SoundLaws.{not-refused, passed}
 use Rattle.placing.specs.Plan.{startAt}
 use Rattle.placing.specs.PlanLaws.{share-swap}
 use Rattle.plan.specs.CheckStarts.{checkCount, checkEnd, checkEnds, checkClash, checkClashes, checkPlaces, checkStarts}
-
--- a refusal is not a pass
-refused-not-sound : {C : Type 0} (why : Refusal) → Refused why ≡ Sound → C
-refused-not-sound why e = absurd (let z : _≡_ {A = ℕ} 0 1 = cc in omega arith)
 
 -- two checks that pass, pass one after the other
 pub both-sound : (a b : Checked) → a ≡ Sound → b ≡ Sound → then a b ≡ Sound
 both-sound a b h k = then-sound a b h ∙ k
 
--- a check that refuses where a test is false passes exactly where it is true
+-- a check that refuses where a test is false passes where it is true
 pub passes-if : (t : Bool) (why : Refusal) → t ≡ true → cond t Sound (Refused why) ≡ Sound
 passes-if t why h = rw h
 
-pub if-passes : (t : Bool) (why : Refusal) → cond t Sound (Refused why) ≡ Sound → t ≡ true
-if-passes true why h = refl
-if-passes false why h = refused-not-sound why h
-
--- a check that refuses where a test is true passes exactly where it is false
+-- a check that refuses where a test is true passes where it is false
 pub passes-unless : (t : Bool) (why : Refusal) → t ≡ false → cond t (Refused why) Sound ≡ Sound
 passes-unless t why h = rw h
-
-pub unless-passes : (t : Bool) (why : Refusal) → cond t (Refused why) Sound ≡ Sound → t ≡ false
-unless-passes true why h = refused-not-sound why h
-unless-passes false why h = refl
 
 -- 17 passes: each end is at most S
 pub ends-within : (S : ℕ) (starts : List ℕ) (k : ℕ) (demands : List DemandView) → checkEnds S starts k demands ≡ Sound →
@@ -58,7 +47,7 @@ ends-within S starts k [] h p l = absurd (omega arith)
 ends-within S starts k (d ∷ demands) h zero l =
     subst (λ (n : ℕ). startAt starts n + d .width ≤ S) (omega arith)
     (ltb-false S (startAt starts k + d .width)
-    (unless-passes (ltb S (startAt starts k + d .width)) (EndAbove k)
+    (not-refused (ltb S (startAt starts k + d .width)) (EndAbove k)
     (first-sound (checkEnd S starts k d) (checkEnds S starts (k + 1) demands) h)))
 ends-within S starts k (d ∷ demands) h (suc p) l =
     subst (λ (n : ℕ). startAt starts n + demandAt demands p .width ≤ S) (omega arith)
@@ -91,7 +80,7 @@ unfolding checkClashes checkClash
 clashes-none P starts rows k [] h p l = absurd (omega arith)
 clashes-none P starts rows k (d ∷ demands) h zero l = (
   subst (λ (n : ℕ). fits P rows n (startAt starts n) ≡ true) (omega arith)
-      (if-passes (fits P rows k (startAt starts k)) (Clash k) (first-sound (checkClash P starts rows k) (checkClashes P starts (here ∷ rows) (k + 1) demands) h)),
+      (passed (fits P rows k (startAt starts k)) (Clash k) (first-sound (checkClash P starts rows k) (checkClashes P starts (here ∷ rows) (k + 1) demands) h)),
   λ q a b. subst (λ (n : ℕ). apart P n (startAt starts n) (k + q) (startAt starts (k + q)) ≡ true) (omega arith)
       (subst (λ (n : ℕ). apart P k (startAt starts k) n (startAt starts n) ≡ true) (omega arith)
       (fits-first P here rows (k + 1 + (q - 1)) (startAt starts (k + 1 + (q - 1)))
@@ -178,7 +167,7 @@ module _ (v : View) (starts : List ℕ) where
       let placed = next-sound (checkCount (v .demandCount) starts) (then ends clashes) counted in (
         first-sound (check v) (then (checkCount (v .demandCount) starts) (then ends clashes)) h,
         ltb-false (length starts) (v .demandCount)
-            (unless-passes (ltb (length starts) (v .demandCount)) (NoRow (length starts)) (first-sound (checkCount (v .demandCount) starts) (then ends clashes) counted)),
+            (not-refused (ltb (length starts) (v .demandCount)) (NoRow (length starts)) (first-sound (checkCount (v .demandCount) starts) (then ends clashes) counted)),
         first-sound ends clashes placed,
         placed,
       )

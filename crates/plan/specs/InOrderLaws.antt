@@ -16,7 +16,7 @@ use Rattle.request.specs.FieldLaws.{number-at}
 use Rattle.request.specs.Reading.{number16}
 use Rattle.request.specs.RoundTrip.{Idents16}
 use Rattle.request.specs.Sound.{SoundRequest}
-use Rattle.request.specs.TestLaws.{by-test}
+use Rattle.theory.specs.TestLaws.{by-test}
 use Rattle.request.specs.View.{View, demandAt}
 use Rattle.placing.specs.MeetingLaws.{listing-at}
 use Rattle.placing.specs.OrderLaws.{getD-mem}

@@ -18,7 +18,7 @@ use Rattle.request.specs.View.{DemandView, View, demandAt, noDemand}
 use Rattle.request.specs.Encoding.{twoBytes, field}
 use Rattle.request.specs.Writing.{writeReply, filled}
 use Rattle.request.specs.WritingLaws.{sets-then}
-use Rattle.request.specs.TestLaws.{by-test}
+use Rattle.theory.specs.TestLaws.{by-test}
 use Rattle.placing.specs.Plan.{startAt}
 use Rattle.plan.specs.CheckStarts.{checkStarts}
 use Rattle.plan.specs.PlanFile.{rowField, rowFields, encodePlan, planWritten, planOut}

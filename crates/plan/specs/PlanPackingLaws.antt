@@ -15,11 +15,12 @@ use Rattle.theory.specs.Orders.{countUp, listing}
 use Rattle.theory.specs.ListingLaws.{listing-length}
 use Rattle.request.specs.declared.Checked.the-variants.{Sound, Refused}
 use Rattle.request.specs.View.{DemandView, View, demandAt, noDemand}
-use Rattle.request.specs.TestLaws.{by-test}
+use Rattle.theory.specs.TestLaws.{by-test}
 use Rattle.request.specs.Reading.{number16, bodyLength, fieldEnd, idents}
 use Rattle.request.specs.Fields.{FieldHolds}
 use Rattle.request.specs.Packing.{padded}
 use Rattle.request.specs.PackingLaws.{take-padded, set-padded}
+use Rattle.request.specs.DemandsLaws.{idents-length}
 use Rattle.placing.specs.MeetingLaws.{listing-at}
 use Rattle.placing.specs.ViewLaws.{map-at}
 use Rattle.plan.specs.PlanReading.{positionOf, given, rowIn, checkRow, rowsRefused, rowsRead, readRows, givenTo, startsTo}
@@ -42,11 +43,6 @@ copy-turn found out k h room =
 pub ident-at : (demands : List DemandView) (k : ℕ) → k < length demands → getD (idents demands) k 0 ≡ demandAt demands k .ident
 unfolding idents demandAt
 ident-at demands k h = map-at (λ (d : DemandView). d .ident) demands k noDemand 0 h
-
--- there are as many idents as demands
-pub idents-length : (demands : List DemandView) → length (idents demands) ≡ length demands
-unfolding idents
-idents-length demands = length-map demands (λ (d : DemandView). d .ident)
 
 -- one ident more in an array
 pub idents-turn : (demands : List DemandView) (k : ℕ) → k < length demands → k < 200 →

@@ -19,7 +19,7 @@ use Rattle.request.specs.Check.{then, check}
 use Rattle.request.specs.CheckLaws.{then-sound, then-refused}
 use Rattle.request.specs.Reading.{must, number16, fieldEnd, checkField}
 use Rattle.request.specs.ReadingLaws.{field-short, field-long}
-use Rattle.request.specs.TestLaws.{by-test}
+use Rattle.theory.specs.TestLaws.{by-test}
 use Rattle.placing.specs.Placing.{problemOf}
 use Rattle.plan.specs.CheckStarts.{checkClashes}
 use Rattle.plan.specs.PlanReading.{positionOf, given, rowIn, checkNewRow, checkRow, RowsRead, rowsRefused, rowsRead, nextRows, readRows, givenTo, startsTo, checkGiven, checkWhole, checkRows, refused, accepted, ifChecked, withRows, withFile, readPlanFile}

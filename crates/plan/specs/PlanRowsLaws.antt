@@ -15,7 +15,7 @@ use Rattle.request.specs.declared.Checked.the-variants.{Sound, Refused}
 use Rattle.request.specs.View.{View, demandAt}
 use Rattle.request.specs.Check.{then}
 use Rattle.request.specs.CheckLaws.{then-sound, first-sound, next-sound}
-use Rattle.request.specs.TestLaws.{by-test}
+use Rattle.theory.specs.TestLaws.{by-test}
 use Rattle.request.specs.Reading.{must, fieldEnd, checkField}
 use Rattle.request.specs.ReadingLaws.{test-held}
 use Rattle.placing.specs.Placing.{problemOf}

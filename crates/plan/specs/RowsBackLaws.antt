@@ -15,7 +15,7 @@ use Rattle.request.specs.FieldLaws.{left-over}
 use Rattle.request.specs.ReadingLaws.{field-sound}
 use Rattle.request.specs.RoundTrip.{Idents16}
 use Rattle.request.specs.Sound.{SoundRequest}
-use Rattle.request.specs.TestLaws.{by-test}
+use Rattle.theory.specs.TestLaws.{by-test}
 use Rattle.request.specs.View.{View, demandAt}
 use Rattle.request.specs.declared.Checked.the-variants.{Sound}
 use Rattle.placing.specs.Plan.{startAt}

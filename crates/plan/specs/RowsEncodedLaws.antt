@@ -17,12 +17,13 @@ use Rattle.request.specs.Fields.{FieldHolds}
 use Rattle.request.specs.Reading.{number16, fieldEnd, checkField, idents}
 use Rattle.request.specs.ReadingLaws.{field-holds}
 use Rattle.request.specs.RoundTrip.{Bytes}
-use Rattle.request.specs.TestLaws.{by-test, never-both}
+use Rattle.theory.specs.TestLaws.{by-test, not-both}
 use Rattle.request.specs.View.{View, demandAt}
 use Rattle.request.specs.declared.Checked.the-variants.{Sound}
 use Rattle.placing.specs.Plan.{startAt}
 use Rattle.plan.specs.PlanFile.{rowField}
-use Rattle.plan.specs.PlanPackingLaws.{ident-at, idents-length, row-end}
+use Rattle.request.specs.DemandsLaws.{idents-length}
+use Rattle.plan.specs.PlanPackingLaws.{ident-at, row-end}
 use Rattle.plan.specs.PlanReading.{positionOf, given, rowIn, checkNewRow, checkRow, rowsRead, nextRows, readRows}
 use Rattle.plan.specs.PlanReadingLaws.{rows-end}
 use Rattle.plan.specs.PlanRowsLaws.{NewRowHolds, row-holds, next-passed}
@@ -85,7 +86,7 @@ module _ (v : View) (counted : length (v .demands) ≡ v .demandCount) (s : List
             ∙ (ap (λ (l : List ℕ). rowField (number16 s (at + 3)) (number16 s (at + 5)) ++ l) (rest .encoded)
             ∙ (ap (λ (n : ℕ). rowField n (number16 s (at + 5)) ++ rowsInOrder v starts (rest .order)) (sym (row-ident v s at (holds .listed)))
             ∙ ap (λ (n : ℕ). rowField (demandAt (v .demands) (r .who) .ident) n ++ rowsInOrder v starts (rest .order)) (sym own)));
-        once = no-repeats-with (r .who) (rest .order) (λ m. never-both (given (r ∷ rows) (r .who)) (given-new rows r) (rest .new (r .who) m)) (rest .once);
+        once = no-repeats-with (r .who) (rest .order) (λ m. not-both {C = ⊥} (given (r ∷ rows) (r .who)) (given-new rows r) (rest .new (r .who) m)) (rest .once);
         new = λ k m.
             ⊎-elim
             (λ (z : k ≡ r .who). subst (λ (n : ℕ). given rows n ≡ false) (sym z) (holds .first))
@@ -97,7 +98,7 @@ module _ (v : View) (counted : length (v .demands) ≡ v .demandCount) (s : List
             (λ later. inr (List·Memᴰ·tail later)) (rest .has k g);
         kept = λ k g.
             rest .kept k (given-still rows r k g)
-            ∙ start-still rows r k (λ (z : r .who ≡ k). never-both (given rows k) g (subst (λ (n : ℕ). given rows n ≡ false) z (holds .first)));
+            ∙ start-still rows r k (λ (z : r .who ≡ k). not-both {C = ⊥} (given rows k) g (subst (λ (n : ℕ). given rows n ≡ false) z (holds .first)));
       }
 
   -- what was read as rows is the rows of an order

@@ -17,10 +17,11 @@ use Rattle.request.specs.Fields.{FieldHolds}
 use Rattle.request.specs.Reading.{number16, idents}
 use Rattle.request.specs.RoundTrip.{Bytes}
 use Rattle.request.specs.Sound.{SoundRequest}
-use Rattle.request.specs.TestLaws.{by-test}
+use Rattle.theory.specs.TestLaws.{by-test}
 use Rattle.request.specs.View.{View, demandAt}
 use Rattle.plan.specs.PlanFile.{rowField}
-use Rattle.plan.specs.PlanPackingLaws.{ident-at, idents-length}
+use Rattle.request.specs.DemandsLaws.{idents-length}
+use Rattle.plan.specs.PlanPackingLaws.{ident-at}
 use Rattle.plan.specs.PlanReading.{positionOf, given}
 use Rattle.plan.specs.RowsInFile.{RowThere}
 

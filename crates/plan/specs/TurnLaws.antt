@@ -12,12 +12,11 @@ use borrow.Author.Tests.{ltb-true, lt-ltb, le-ltb}
 use Rattle.refusal.specs.declared.Refusal.the-variants.{EndAbove, Clash}
 use Rattle.theory.specs.Problem.{Problem, endOf, apart, fits}
 use Rattle.theory.specs.ApartLaws.{clash-facts, clash-from}
-use Rattle.theory.specs.TestLaws.{not-false-true}
+use Rattle.theory.specs.TestLaws.{not-false-true, not-both, and-first, and-second, and-both}
 use Rattle.request.specs.declared.Checked.the-variants.{Sound, Refused}
 use Rattle.request.specs.View.{DemandView, View, demandAt, noDemand}
 use Rattle.request.specs.Check.{then}
 use Rattle.request.specs.CheckLaws.{then-sound, then-refused}
-use Rattle.request.specs.TestLaws.{never-both, first-of, second-of, both}
 use Rattle.placing.specs.Placing.{shareLink, problemOf}
 use Rattle.placing.specs.Plan.{startAt, endFrom}
 use Rattle.plan.specs.CheckStarts.{checkEnd, checkEnds, checkClash, checkClashes}
@@ -128,11 +127,11 @@ module _ (v : View) (i s j t : ℕ) where
       let end = s + demandAt (v .demands) i .width + G in
       let other = t + demandAt (v .demands) j .width + G in
       let share = shareLink (demandAt (v .demands) i .route) (demandAt (v .demands) j .route) in
-      let near = first-of (ltb t end && ltb s other) share h in
+      let near = and-first (ltb t end && ltb s other) share h in
       clash-from (problemOf v) i s j t
-      (second-of (ltb t end && ltb s other) share h)
-      (ltb-true t end (first-of (ltb t end) (ltb s other) near))
-      (ltb-true s other (second-of (ltb t end) (ltb s other) near))
+      (and-second (ltb t end && ltb s other) share h)
+      (ltb-true t end (and-first (ltb t end) (ltb s other) near))
+      (ltb-true s other (and-second (ltb t end) (ltb s other) near))
 
   -- two demands of which this is not so are apart
   pub not-close-apart :
@@ -148,5 +147,5 @@ module _ (v : View) (i s j t : ℕ) where
       not-false-true (apart (problemOf v) i s j t)
       (λ clash.
       let facts = clash-facts (problemOf v) i s j t clash in
-      never-both ((ltb t end && ltb s other) && share)
-      (both (ltb t end && ltb s other) share (both (ltb t end) (ltb s other) (lt-ltb t end (facts .1)) (lt-ltb s other (facts .2))) (facts .0)) h)
+      not-both {C = ⊥} ((ltb t end && ltb s other) && share)
+      (and-both (ltb t end && ltb s other) share (and-both (ltb t end) (ltb s other) (lt-ltb t end (facts .1)) (lt-ltb s other (facts .2))) (facts .0)) h)

@@ -37,7 +37,7 @@ not-refused true why h = refused-not-sound why h
 not-refused false why h = refl
 
 -- a choice between sound and refusal that is sound had a test that held
-passed : (b : Bool) (why : Refusal) → cond b Sound (Refused why) ≡ Sound → b ≡ true
+pub passed : (b : Bool) (why : Refusal) → cond b Sound (Refused why) ≡ Sound → b ≡ true
 passed true why h = refl
 passed false why h = refused-not-sound why h
 

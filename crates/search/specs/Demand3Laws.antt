@@ -295,7 +295,7 @@ module _ (v : View) (sound : SoundRequest v) (counted : length (v .demands) ≡ 
         }
 
 -- an answer in reply: the tests passed, and it is what the search found
-answer-given : (c : Checked) (found : theory.Answer) (a : Answer) → replyTo c found ≡ reply.Answered a → (c ≡ Sound) × (answerTold found ≡ a)
+pub answer-given : (c : Checked) (found : theory.Answer) (a : Answer) → replyTo c found ≡ reply.Answered a → (c ≡ Sound) × (answerTold found ≡ a)
 unfolding replyTo
 answer-given Sound found a e = (refl, cc)
 answer-given (Refused why) found a e = absurd (let z : _≡_ {A = ℕ} 0 1 = cc in omega arith)

@@ -10,7 +10,8 @@ use Rattle.request.specs.View.{DemandView, view, viewDemand}
 use Rattle.request.specs.ViewLaws.{demands-shown, demand-shown, mapped-length}
 use Rattle.request.specs.Reading.{idents}
 use Rattle.request.specs.Packing.{padded}
-use Rattle.plan.specs.PlanPackingLaws.{idents-turn, idents-length}
+use Rattle.request.specs.DemandsLaws.{idents-length}
+use Rattle.plan.specs.PlanPackingLaws.{idents-turn}
 use Rattle.plan.proofs.read.idents_of.Statement.{statement}
 use Rattle.plan.proofs.read.idents_of.Tie as tie
 
