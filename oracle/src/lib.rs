@@ -17,6 +17,7 @@ pub mod paint;
 pub mod placing;
 pub mod plan;
 pub mod plan_file;
+pub mod plans;
 pub mod request;
 pub mod request_file;
 pub mod requests;

@@ -36,7 +36,7 @@ fn word(found: &Found) -> &'static str {
 }
 
 /// Ident, start, end, n and central MHz.
-fn row(request: &Request, position: usize, start: i64, rules: &Rules) -> Result<String, Refusal> {
+pub fn row(request: &Request, position: usize, start: i64, rules: &Rules) -> Result<String, Refusal> {
     let demand = &request.demands[position];
     let centre = to_frequency(&request.band, start, demand.width, rules)?;
     Ok(format!("{} {} {} {} {}\n", demand.ident, start, start + demand.width, centre.n, centre.mhz))

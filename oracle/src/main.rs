@@ -2,7 +2,7 @@
 
 use oracle::frames::{call_of, frame_of, next_frame, Call};
 use oracle::rules::Rules;
-use oracle::{answers, best, census, compare, laws, lightplan, make, requests, variants};
+use oracle::{answers, best, census, compare, laws, lightplan, make, plans, requests, variants};
 use std::fs;
 use std::io::{self, Read, Write};
 use std::path::Path;
@@ -11,7 +11,7 @@ use std::process::ExitCode;
 const USAGE: &str =
     "usage: oracle answer | check-best [LINES] | check-laws | compare LINES | variants | census  < frames
        oracle lightplan  < request
-       oracle requests FOLDER  < frames
+       oracle requests FOLDER | plans FOLDER  < frames
        oracle make stored | make longest | make random SEED COUNT | make small SEED COUNT
        oracle streams FOLDER SEED COUNT";
 
@@ -38,7 +38,8 @@ fn run(words: &[&str]) -> Result<bool, String> {
         ["variants"] => Ok(variants::show(&input_calls()?)),
         ["census"] => print(&joined_lines(&census::census(&input_calls()?))),
         ["lightplan"] => print(lightplan::lightplan(&input()?, &Rules::right()).as_bytes()),
-        ["requests", folder] => write_requests(Path::new(folder)),
+        ["requests", folder] => counted(requests::write_all(&input_calls()?, Path::new(folder))),
+        ["plans", folder] => counted(plans::write_all(&input_calls()?, Path::new(folder))),
         ["make", "stored"] => print(&frames(&make::stored())),
         ["make", "random", seed, count] => print(&frames(&make::random(number(seed)?, number(count)? as usize))),
         ["make", "small", seed, count] => print(&frames(&make::small(number(seed)?, number(count)? as usize))),
@@ -70,8 +71,8 @@ fn input_calls() -> Result<Vec<Call>, String> {
     Ok(calls)
 }
 
-fn write_requests(folder: &Path) -> Result<bool, String> {
-    let count = requests::write_all(&input_calls()?, folder).map_err(|error| error.to_string())?;
+fn counted(files: io::Result<usize>) -> Result<bool, String> {
+    let count = files.map_err(|error| error.to_string())?;
     print(format!("{count}\n").as_bytes())
 }
 

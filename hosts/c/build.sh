@@ -1,0 +1,10 @@
+#!/usr/bin/env bash
+# Builds target/lightdesk from nothing: proves the library and makes its archive where that is still to be done, then compiles the C.
+set -euo pipefail
+cd "$(dirname "$0")/../.."
+. tests/lib/x86.sh
+. tests/lib/host.sh
+x86_ready cc
+host_library
+# shellcheck disable=SC2086
+"$X86_CC" $HOST_C -o target/lightdesk $HOST_DESK "$HOST_LIBRARY"

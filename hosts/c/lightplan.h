@@ -1,0 +1,143 @@
+/* Lightplan for C: reads request files, searches for the plan that ends lowest, checks plans. Five calls over a library in which every
+   function is proved to meet its contract.
+
+   A request lists demands (circuits): each has an ident, a width in slots and a route over links. A plan gives each demand a start, its
+   first slot; the demand then ends at start + width. Demands go by listing position: their place in the request file, from 0. K is how
+   many there are. Request and plan files are given as their bytes; docs/RULES.md says how they are laid out.
+
+   Slices. What the library reads or writes is lent as a pointer and a count of elements. A call never looks beyond that count, keeps no
+   pointer after it returns, and wants the pointer aligned for its elements. Buffers of one call must not overlap one another. For no
+   elements give the count 0 with any pointer that is not NULL.
+
+   Refusals. Every answer begins with `refusal`. It is 0 for an answer. Else it is a number of enum lightplan_refusal, `place` says where
+   the fault is, every other field is 0, and every lent buffer is exactly as it was.
+
+   Calls. No call fails otherwise, whatever the bytes are. There is no global state, no allocation, no input or output: calls may run in
+   any number of threads at once, each with buffers of its own. Stack needed, measured on x86-64: see LIGHTPLAN_STACK. */
+#ifndef LIGHTPLAN_H
+#define LIGHTPLAN_H
+
+#include <stddef.h>
+#include <stdint.h>
+
+#ifdef __cplusplus
+extern "C" {
+#endif
+
+/* The longest files that are read. To see that a file is too long it is enough to give one byte more. */
+#define LIGHTPLAN_REQUEST_BYTES 8128
+#define LIGHTPLAN_PLAN_BYTES 1400
+
+/* The most demands of a request, so that buffers of as many entries are never too short for lightplan_read and lightplan_check. */
+#define LIGHTPLAN_DEMANDS 200
+
+/* The most demands that are searched, so that buffers of as many entries are never too short for lightplan_search. */
+#define LIGHTPLAN_SEARCHED 20
+
+/* Why there is no answer. "Offset" is the byte of the file where the faulty field begins. */
+enum lightplan_refusal {
+    LIGHTPLAN_ANSWERED = 0,           /* no refusal */
+    LIGHTPLAN_PAST_END = 1,           /* a field runs past the end of its file; place: offset */
+    LIGHTPLAN_WRONG_TAG = 2,          /* a tag that may not stand there; place: offset. A request file that ends without a band or a
+                                         link; place: the file's length */
+    LIGHTPLAN_WRONG_LENGTH = 3,       /* a field's length is wrong for its tag; place: offset */
+    LIGHTPLAN_BAND_OUTSIDE = 4,       /* a number of the band is out of its range; place: offset, in lightplan_frequency 0 */
+    LIGHTPLAN_BAD_LINK = 5,           /* a 65th link, or a link from a node to itself; place: offset */
+    LIGHTPLAN_TOO_MANY_DEMANDS = 6,   /* a 201st demand; place: offset */
+    LIGHTPLAN_BAD_ROUTE = 7,          /* a route with an unlisted link, a link twice, or a break; place: offset */
+    LIGHTPLAN_IDENT_USED = 8,         /* an ident that an earlier demand has; place: offset */
+    LIGHTPLAN_BAD_WIDTH = 9,          /* a width of 0 or above the slot count; place: offset, in lightplan_frequency 0 */
+    LIGHTPLAN_BUFFER_SHORT = 10,      /* a result buffer has too few entries; place: how many it needs, K */
+    LIGHTPLAN_TOO_MANY_TO_SEARCH = 11, /* more than 20 demands for a search; place: K */
+    LIGHTPLAN_NOT_AN_ORDER = 12,      /* of a call that is not offered to C */
+    LIGHTPLAN_NO_START = 13,          /* of a call that is not offered to C */
+    LIGHTPLAN_UNKNOWN_IDENT = 14,     /* a plan row with an ident that no demand has; place: offset in the plan file */
+    LIGHTPLAN_IDENT_SEEN = 15,        /* a plan row with an ident that an earlier row has; place: offset in the plan file */
+    LIGHTPLAN_NO_ROW = 16,            /* a demand without a start; place: the first such listing position, in lightplan_check_starts how
+                                         many starts were given */
+    LIGHTPLAN_END_ABOVE = 17,         /* an end above the slot count; place: offset in the plan file, in lightplan_check_starts the first
+                                         such listing position, in lightplan_frequency 0 */
+    LIGHTPLAN_CLASH = 18,             /* two demands share a link, and the guard does not part them; place: the first listing position
+                                         that clashes with an earlier one */
+    LIGHTPLAN_NO_BLOCK = 19,          /* of a call that is not offered to C */
+    LIGHTPLAN_FILE_TOO_LONG = 20      /* a file above its limit; place: the limit, 8128 for a request and 1400 for a plan */
+};
+
+/* How a search came out. */
+enum lightplan_outcome {
+    LIGHTPLAN_FINISHED = 0,        /* a plan, proved the best: no allowed plan at all ends lower */
+    LIGHTPLAN_NOTHING_FITS = 1,    /* proved: no plan is allowed */
+    LIGHTPLAN_UNFINISHED = 2,      /* the steps ran out; the best plan met so far, which may not be the best there is */
+    LIGHTPLAN_UNFINISHED_EMPTY = 3 /* the steps ran out before a plan was met; there may be one */
+};
+
+/* What a request file holds. */
+struct lightplan_request {
+    uint8_t refusal; /* 0, or a number of enum lightplan_refusal */
+    size_t place;    /* where the fault is; 0 without one */
+    int16_t n0;      /* the band's lower edge, in steps of 6.25 GHz from 193.1 THz: -400 to 400 */
+    uint16_t slots;  /* how many slots of 12.5 GHz the band has: 1 to 384 */
+    uint8_t guard;   /* how many slots stay free between two neighbours on a link: 0 to 8 */
+    size_t links;    /* how many links: 1 to 64 */
+    size_t demands;  /* how many demands, K: 0 to 200 */
+    uint32_t bound;  /* the end that no plan can be below: what the fullest link needs. Up to 78392 */
+};
+
+/* What a search answers. */
+struct lightplan_answer {
+    uint8_t refusal;  /* 0, or a number of enum lightplan_refusal */
+    size_t place;     /* where the fault is; 0 without one */
+    uint8_t outcome;  /* a number of enum lightplan_outcome; means nothing beside a refusal */
+    uint16_t end;     /* the plan's end, its largest; 0 without a plan */
+    uint32_t bound;   /* the end that no plan can be below. An end that equals it is the best for that reason alone */
+    uint32_t steps;   /* steps taken, never more than the limit: a step puts one demand down */
+    uint64_t reached; /* orders of the demands that were placed to their end */
+    uint64_t ruled;   /* orders that were ruled out without. Finished above the bound, or nothing fits: reached + ruled is K! */
+};
+
+/* What the check of a plan answers. */
+struct lightplan_verdict {
+    uint8_t refusal; /* 0: the plan is allowed; else a number of enum lightplan_refusal */
+    size_t place;    /* where the fault is; 0 without one */
+    uint16_t end;    /* the plan's end, its largest */
+    uint32_t bound;  /* the end that no plan can be below. An allowed plan whose end equals it is the best there is */
+};
+
+/* Where a block of slots stands on the grid of ITU-T G.694.1. */
+struct lightplan_frequency_of {
+    uint8_t refusal; /* 0, or a number of enum lightplan_refusal */
+    size_t place;    /* always 0 */
+    int32_t n;       /* the central number: the centre is n steps of 6.25 GHz from 193.1 THz */
+    uint16_t m;      /* the width number, in slots of 12.5 GHz */
+    int64_t mhz;     /* the central frequency in MHz */
+};
+
+/* Reads a request file. The first K entries of `idents` and of `widths` get the demands' idents and widths by listing position; what
+   stands behind them stays. Refusals: 20, then field by field 1 to 9; 10 last, for idents and then for widths. */
+struct lightplan_request lightplan_read(const uint8_t *file, size_t file_bytes, uint16_t *idents, size_t idents_count, uint16_t *widths,
+                                        size_t widths_count);
+
+/* Searches a request file's demands, at most 20, for the plan with the lowest end, in at most `limit` steps. With a plan the first K
+   entries of `starts` get its starts by listing position and those of `order` the listing positions in the order that gave them; without
+   one, and behind K, both stay. Refusals: lightplan_read's of the file, then 11, then 10 for starts and then for order. */
+struct lightplan_answer lightplan_search(const uint8_t *file, size_t file_bytes, uint32_t limit, uint16_t *starts, size_t starts_count,
+                                         uint16_t *order, size_t order_count);
+
+/* Checks a plan file against a request file. Accepts exactly the allowed plans; the first K entries of `starts` then get the plan's
+   starts by listing position. Refusals: lightplan_read's of the request file; then of the plan file 20, row by row 1, 2, 3, 14, 15 and
+   17, and 16, 18; 10 last. */
+struct lightplan_verdict lightplan_check(const uint8_t *file, size_t file_bytes, const uint8_t *plan, size_t plan_bytes, uint16_t *starts,
+                                         size_t starts_count);
+
+/* Checks starts, by listing position, against a request file. Starts behind K are not read. Refusals: lightplan_read's of the request
+   file, then 16, 17 and 18. */
+struct lightplan_verdict lightplan_check_starts(const uint8_t *file, size_t file_bytes, const uint16_t *starts, size_t starts_count);
+
+/* The frequency of the block that begins at slot `start` and is `width` slots wide, in a band of these numbers. Refusals: 4, 9, 17. */
+struct lightplan_frequency_of lightplan_frequency(int16_t n0, uint16_t slots, uint8_t guard, uint16_t start, uint16_t width);
+
+#ifdef __cplusplus
+}
+#endif
+
+#endif

@@ -1,0 +1,280 @@
+#!/usr/bin/env bash
+# Tests the C host: the library's entries called from C with lent memory that is looked at afterwards, and lightdesk held against the
+# program lightplan and against the second program's checks of plans, on stored and random files. The C is compiled with the
+# sanitizers that run here. SEED=... repeats a run.
+# The last line counts the runs: "N passed, 0 failed". The first difference ends it with a non-zero status.
+set -euo pipefail
+cd "$(dirname "$0")/.."
+. tests/lib/x86.sh
+. tests/lib/host.sh
+x86_ready cc
+host_library
+
+program=target/bin/lightplan
+work=target/host-test
+seed=${SEED:-$(od -An -N4 -tu4 /dev/urandom | tr -d ' ')}
+faults=31
+passed=0
+ulimit -c 0
+
+(cd oracle && CARGO_TARGET_DIR=target cargo build --release --offline --quiet)
+oracle=oracle/target/release/oracle
+rm -rf "$work"
+mkdir -p "$work"/{searched,checked}/{stored,random}
+
+failed() {
+    echo "FAILED: $*, seed $seed"
+    exit 1
+}
+
+# ---- what is built
+
+# sanitize: the sanitizers with which a C program runs here. AddressSanitizer wants more room than an emulator has to give.
+sanitize() {
+    printf 'int main(void) { return 0; }\n' >"$work/trial.c"
+    "$X86_CC" -fsanitize=address -o "$work/trial" "$work/trial.c"
+    sanitizers=undefined
+    if ([ $X86_NATIVE = yes ] || ulimit -v 33554432; x86_run "$work/trial") >/dev/null 2>&1; then
+        sanitizers=undefined,address
+    else
+        echo "left out: AddressSanitizer, which does not run on this machine"
+    fi
+}
+
+# compile NAME SOURCE..: a program with the sanitizers, linked with the library
+compile() {
+    local name=$1
+    shift
+    # shellcheck disable=SC2086
+    "$X86_CC" $HOST_C -g -fsanitize=$sanitizers -fno-sanitize-recover=all -o "$work/$name" "$@" "$HOST_LIBRARY"
+}
+
+sanitize
+entries="tests/host/entries.c tests/host/lent.c"
+wrong=tests/host/wrong.c
+for entry in read search check check_starts frequency; do
+    wrong="$wrong -Wl,--wrap=lightplan_$entry"
+done
+# shellcheck disable=SC2086
+{
+    compile lightdesk $HOST_DESK
+    compile lightdesk-wrong $HOST_DESK $wrong
+    compile entries $entries
+    compile entries-wrong $entries $wrong
+}
+hosts/c/build.sh
+
+# ---- the archive
+
+# The five entries are all that it offers; it has no variable of its own, and takes nothing but copying and filling from the C library.
+archive() {
+    local names=lightplan_check,lightplan_check_starts,lightplan_frequency,lightplan_read,lightplan_search,
+    nm "$HOST_LIBRARY" >"$work/names"
+    [ "$(awk '$2 == "T" { print $3 }' "$work/names" | sort | tr '\n' ,)" = "$names" ] || failed "the archive offers other names"
+    ! awk '$2 ~ /^[bBcCdD]$/ { found = 1 } END { exit !found }' "$work/names" || failed "the archive has variables"
+    ! awk '$1 == "U" && $2 !~ /^mem(cpy|set|move|cmp)$/ { found = 1 } END { exit !found }' "$work/names" || failed "the archive calls others"
+    passed=$((passed + 3))
+}
+
+# The header can be read alone, by C and by C++.
+header() {
+    printf '#include "hosts/c/lightplan.h"\n' >"$work/header.c"
+    gcc -std=c99 -Wall -Wextra -Wpedantic -Werror -I. -fsyntax-only "$work/header.c" || failed "the header is no C"
+    passed=$((passed + 1))
+    command -v g++ >/dev/null || return 0
+    g++ -x c++ -Wall -Wextra -Wpedantic -Werror -I. -fsyntax-only "$work/header.c" || failed "the header is no C++"
+    passed=$((passed + 1))
+}
+
+archive
+header
+
+# ---- lightdesk: words, statuses, faults of use
+
+# says STATUS LINE ARGUMENT..: lightdesk ends with this status, and the last line printed is this one
+says() {
+    local status=0
+    x86_run "$work/lightdesk" "${@:3}" >"$work/printed" 2>"$work/said" || status=$?
+    [ $status = "$1" ] || failed "status $status, not $1: lightdesk ${*:3}"
+    [ "$(tail -n 1 "$work/printed")" = "$2" ] || failed "other words: lightdesk ${*:3}: $(tail -n 1 "$work/printed")"
+    passed=$((passed + 1))
+}
+
+# begins LINE: what was printed last begins with this line
+begins() {
+    [ "$(head -n 1 "$work/printed")" = "$1" ] || failed "another line: $(head -n 1 "$work/printed")"
+    passed=$((passed + 1))
+}
+
+# misuse ARGUMENT..: status 2, nothing on standard output, something on standard error
+misuse() {
+    says 2 '' "$@"
+    [ -s "$work/said" ] || failed "no word about: lightdesk $*"
+}
+
+best='This is the best there is, proved: '
+at_bound="${best}the plan ends at the bound, and no plan can end below it."
+by_orders="${best}the search accounted for every order of the demands, and no plan at all ends lower."
+
+searches() {
+    says 0 "$at_bound" search examples/R.request
+    says 0 "$at_bound" search examples/R.request 5
+    says 0 "$at_bound" search examples/R.request 4294967295
+    says 0 'Not known after 4 steps whether this is the best there is: a plan may end lower, though none below 4.' search examples/R.request 4
+    begins 'unfinished end 6 bound 4 steps 4 reached 1 ruled 0'
+    says 1 'Not known after 0 steps whether anything fits: no plan was met, and orders are left to try.' search examples/R.request 0
+    begins 'unfinished end 0 bound 4 steps 0 reached 0 ruled 0'
+    says 0 "$by_orders" search examples/T.request 15
+    says 0 'Not known after 14 steps whether this is the best there is: a plan may end lower, though none below 2.' search examples/T.request 14
+    says 1 'Nothing fits, proved: the search accounted for every order of the demands, and no plan ends within 2 slots.' search examples/tight.request
+    { head -c 5 examples/R.request; printf '\0\3'; tail -c +8 examples/R.request; } >"$work/narrow"
+    says 1 'Nothing fits, proved: the fullest link needs 4 slots, and the band has 3.' search "$work/narrow" 0
+    says 1 'The request is refused: it has more than the 20 demands that can be searched. Place 91 is how many it has.' search examples/nsfnet91.request
+    says 1 'The request is refused: the file ends without a band or a link. Place 0 is its length in bytes.' search /dev/null
+    says 1 'The request is refused: a field has a tag that may not stand there. Place 0 is the byte, counted from 0, where that field begins.' search examples/R.plan
+    says 1 'The request is refused: the file is too long. Place 8128 is how many bytes it may have.' search /dev/zero
+    begins 'refused 20 8128'
+}
+
+checks() {
+    says 0 "${best}the plan is allowed and ends at the bound, and no plan can end below it." check examples/nsfnet91.request examples/nsfnet91.plan
+    begins 'accepted end 80 bound 80'
+    printf '\4\0\4\0\24\0\2\4\0\4\0\36\0\3\4\0\4\0\12\0\0' >"$work/higher"
+    says 0 'The plan is allowed. The bound does not tell whether it is the best there is: a plan may end lower, though none below 4.' check examples/R.request "$work/higher"
+    begins 'accepted end 6 bound 4'
+    says 1 'The plan is refused: a demand clashes with an earlier one: they share a link, and the guard does not part them. Place 2 is its listing position, counted from 0.' check examples/R.request examples/R-clash.plan
+    says 1 'The plan is refused: a demand of the request has no row. Place 0 is its listing position, counted from 0.' check examples/R.request /dev/null
+    says 1 'The plan is refused: a row has an ident that no demand of the request has. Place 0 is the byte, counted from 0, where that field begins.' check examples/T.request examples/R.plan
+    says 1 'The plan is refused: the file is too long. Place 1400 is how many bytes it may have.' check examples/R.request /dev/zero
+    says 1 'The request is refused: the file is too long. Place 8128 is how many bytes it may have.' check /dev/zero examples/R.plan
+}
+
+# Files on standard input, and what is not to be read or written.
+streams() {
+    says 0 "$at_bound" search - <examples/R.request
+    says 0 "${best}the plan is allowed and ends at the bound, and no plan can end below it." check - examples/R.plan <examples/R.request
+    says 0 "${best}the plan is allowed and ends at the bound, and no plan can end below it." check examples/R.request - <examples/R.plan
+    misuse check - - </dev/null
+    misuse search "$work/none"
+    misuse search "$work"
+    misuse check examples/R.request "$work/none"
+    misuse check "$work/none" examples/R.plan
+    misuse check examples/R.request "$work"
+    local words
+    for words in --help 'search examples/R.request' 'check examples/nsfnet91.request examples/nsfnet91.plan' 'search /dev/null'; do
+        # shellcheck disable=SC2086
+        ! x86_run "$work/lightdesk" $words >/dev/full 2>"$work/said" || failed "a full disk goes unnoticed: lightdesk $words"
+        grep -q '^lightdesk: standard output: ' "$work/said" || failed "no word about a full disk: lightdesk $words"
+        passed=$((passed + 1))
+    done
+}
+
+uses() {
+    local limit
+    says 0 'steps ran out before a plan was met, or a file was refused; 2 wrong usage, or a file cannot be read or written.' --help
+    misuse
+    misuse --version
+    misuse search
+    misuse check examples/R.request
+    misuse --help more
+    misuse check examples/R.request examples/R.plan more
+    misuse search examples/R.request 5 more
+    for limit in '' ' ' -1 +1 ' 1' '1 ' 1x 0x10 1e3 1.0 4294967296 99999999999999999999 18446744073709551617; do
+        misuse search examples/R.request "$limit"
+    done
+}
+
+searches
+checks
+streams
+uses
+
+# ---- lightdesk held against the two other programs
+
+# The status and the beginning of the words that belong to a first line.
+words_for() {
+    case $1 in
+    'accepted '*) echo '0 T' ;;
+    'finished '*) echo '0 This is the best there is, proved: ' ;;
+    'nofit '*) echo '1 Nothing fits, proved: ' ;;
+    'unfinished end 0 '*) echo '1 Not known after 1000000 steps whether anything fits: ' ;;
+    'unfinished '*) echo '0 Not known after 1000000 steps whether this is the best there is: ' ;;
+    'refused '*) echo '1 The ' ;;
+    *) echo '2 ' ;;
+    esac
+}
+
+# same EXPECTED ARGUMENT..: lightdesk prints these lines and one more in words, and its status belongs to them
+same() {
+    local expected=$1 status=0 first last
+    shift
+    x86_run "$work/lightdesk" "$@" >"$work/printed" || status=$?
+    head -n -1 "$work/printed" | cmp - "$expected" || failed "lightdesk $*"
+    read -r first <"$expected"
+    last=$(tail -n 1 "$work/printed")
+    [[ "$status $last" == "$(words_for "$first")"* ]] || failed "status $status and other words: lightdesk $*: $last"
+    passed=$((passed + 1))
+}
+
+echo "seed $seed"
+"$oracle" make stored >"$work/stored"
+"$oracle" make random "$seed" 500 >"$work/random"
+for frames in stored random; do
+    "$oracle" requests "$work/searched/$frames" <"$work/$frames" >/dev/null
+    "$oracle" plans "$work/checked/$frames" <"$work/$frames" >/dev/null
+done
+
+for file in examples/*.request "$work"/searched/*/*.request; do
+    x86_run "$program" <"$file" >"$work/expected"
+    same "$work/expected" search "$file"
+done
+echo "as the program: $passed so far"
+for file in "$work"/checked/*/*.request; do
+    same "${file%.request}.lines" check "$file" "${file%.request}.plan"
+done
+echo "as the second program's checks: $passed so far"
+
+# ---- every entry, with lent memory
+
+x86_run "$work/entries" examples/*.request "$work"/*/*/*.request | tee "$work/counted" || failed "the entries"
+files=$(sed -n 's/^\([0-9]*\) files, .*/\1/p' "$work/counted")
+passed=$((passed + files))
+
+# ---- a library that answers wrongly is noticed
+
+# unlike FAULT EXPECTED ARGUMENT..: lightdesk over a library with this fault does not print these lines and one more
+unlike() {
+    local fault=$1 expected=$2
+    shift 2
+    WRONG=$fault x86_run "$work/lightdesk-wrong" "$@" >"$work/printed" || true
+    ! head -n -1 "$work/printed" | cmp -s - "$expected" || failed "lightdesk does not show fault $fault of tests/host/wrong.c"
+    passed=$((passed + 1))
+}
+
+# Each fault by itself, by the test of the entries; without a fault nothing is noticed.
+WRONG=0 x86_run "$work/entries-wrong" examples/*.request >"$work/said" || failed "the entries behind a wrapper"
+for ((fault = 1; fault <= faults; fault++)); do
+    ! WRONG=$fault x86_run "$work/entries-wrong" examples/*.request >"$work/said" 2>&1 || failed "fault $fault of tests/host/wrong.c goes unnoticed"
+    passed=$((passed + 1))
+done
+echo "$faults wrong libraries noticed by the entries' test"
+
+# And by the comparison of what is printed: the faults of reading and searching, of places, of checks.
+x86_run "$program" <examples/R.request >"$work/R"
+for fault in 2 3 8 9 10 11 12 29 30; do
+    unlike $fault "$work/R" search examples/R.request
+done
+printf 'refused 1 40\n' >"$work/refused"
+head -c 42 examples/R.request >"$work/cut"
+same "$work/refused" search "$work/cut"
+unlike 7 "$work/refused" search "$work/cut"
+printf 'refused 18 2\n' >"$work/refused"
+unlike 19 "$work/refused" check examples/R.request examples/R-clash.plan
+unlike 25 "$work/refused" check examples/R.request examples/R-clash.plan
+{ echo 'accepted end 4 bound 4'; tail -n +2 "$work/R"; } >"$work/accepted"
+same "$work/accepted" check examples/R.request examples/R.plan
+for fault in 20 21 22; do
+    unlike $fault "$work/accepted" check examples/R.request examples/R.plan
+done
+
+echo "$passed passed, 0 failed"

@@ -1,0 +1,451 @@
+/* Calls every entry of the library on request files, and on the plan file beside each where there is one, and holds the answers against
+   what a few lines of C work out from the bytes, against each other, and against the promise that nothing but the first K entries of
+   a lent buffer is written.
+     entries REQUEST..
+   The first difference is printed and ends the run with status 1. The last line counts the files and what was compared. */
+#include "../../hosts/c/lightplan.h"
+#include "lent.h"
+#include <inttypes.h>
+#include <stdio.h>
+#include <stdlib.h>
+#include <string.h>
+
+enum { STEPS = 3000, PLENTY = 203, NAME_BYTES = 4096 };
+
+static const char *now_testing = "no file";
+static unsigned long compared;
+
+/* lent to the calls: two files and two buffers */
+static struct lent request_lent, plan_lent, first_lent, second_lent;
+
+/* what a request file says, read off an accepted file's bytes */
+struct seen {
+    const uint8_t *file;
+    size_t bytes, links, demands;
+    int n0;
+    unsigned slots, guard;
+    uint32_t bound;
+    uint16_t idents[LIGHTPLAN_DEMANDS], widths[LIGHTPLAN_DEMANDS];
+};
+
+static void hold_at(int line, int holds, const char *what)
+{
+    compared++;
+    if (holds)
+        return;
+    printf("FAILED: %s: entries.c, line %d: %s\n", now_testing, line, what);
+    exit(1);
+}
+
+#define HOLD(what) hold_at(__LINE__, (what), #what)
+
+static unsigned two(const uint8_t *bytes) { return bytes[0] * 256u + bytes[1]; }
+
+/* a call writes K entries of both buffers and nothing else, or nothing at all */
+static void hold_written(size_t entries)
+{
+    HOLD(lent_kept(&first_lent, 2 * entries));
+    HOLD(lent_kept(&second_lent, 2 * entries));
+}
+
+/* the most that a link needs: its demands' widths and a guard between each two */
+static uint32_t bound_of(const struct seen *seen)
+{
+    int32_t needs[64], most = 0;
+    for (int l = 0; l < 64; l++)
+        needs[l] = -(int32_t)seen->guard;
+    for (size_t at = 8 + 5 * seen->links; at < seen->bytes; at += 3 + two(seen->file + at + 1))
+        for (unsigned k = 4; k < two(seen->file + at + 1); k++) {
+            int32_t *need = &needs[seen->file[at + 3 + k]];
+            *need += (int32_t)(two(seen->file + at + 5) + seen->guard);
+            if (most < *need)
+                most = *need;
+        }
+    return (uint32_t)most;
+}
+
+static void see(struct seen *seen, const uint8_t *file, size_t bytes)
+{
+    *seen = (struct seen){.file = file, .bytes = bytes, .slots = two(file + 5), .guard = file[7]};
+    seen->n0 = (int)(two(file + 3) ^ 0x8000) - 0x8000;
+    for (size_t at = 8; at < bytes; at += 3 + two(file + at + 1)) {
+        if (file[at] == 2) {
+            seen->links++;
+        } else {
+            seen->idents[seen->demands] = (uint16_t)two(file + at + 3);
+            seen->widths[seen->demands++] = (uint16_t)two(file + at + 5);
+        }
+    }
+    seen->bound = bound_of(seen);
+}
+
+/* ---- lightplan_read */
+
+static struct lightplan_request read_with(const uint8_t *file, size_t bytes, size_t idents, size_t widths)
+{
+    uint16_t *first = lent_out(&first_lent, 2 * idents), *second = lent_out(&second_lent, 2 * widths);
+    return lightplan_read(file, bytes, first, idents, second, widths);
+}
+
+static void hold_no_request(const struct lightplan_request *request)
+{
+    HOLD(request->n0 == 0 && request->slots == 0 && request->guard == 0 && request->links == 0 && request->demands == 0 &&
+         request->bound == 0);
+    hold_written(0);
+}
+
+static void hold_too_short(const struct lightplan_request *request, size_t needed)
+{
+    HOLD(request->refusal == LIGHTPLAN_BUFFER_SHORT && request->place == needed);
+    hold_no_request(request);
+}
+
+static void hold_read(const struct seen *seen, size_t idents, size_t widths)
+{
+    struct lightplan_request request = read_with(seen->file, seen->bytes, idents, widths);
+    HOLD(request.refusal == LIGHTPLAN_ANSWERED && request.place == 0);
+    HOLD(request.n0 == seen->n0 && request.slots == seen->slots && request.guard == seen->guard);
+    HOLD(request.links == seen->links && request.demands == seen->demands && request.bound == seen->bound);
+    HOLD(!memcmp(first_lent.first + LENT_BYTES - 2 * idents, seen->idents, 2 * seen->demands));
+    HOLD(!memcmp(second_lent.first + LENT_BYTES - 2 * widths, seen->widths, 2 * seen->demands));
+    hold_written(seen->demands);
+}
+
+static void test_read(const struct seen *seen)
+{
+    size_t k = seen->demands;
+    struct lightplan_request request;
+    hold_read(seen, PLENTY, PLENTY);
+    hold_read(seen, k, k);
+    hold_read(seen, k, k + 1);
+    if (k == 0)
+        return;
+    request = read_with(seen->file, seen->bytes, k - 1, k);
+    hold_too_short(&request, k);
+    request = read_with(seen->file, seen->bytes, k, k - 1);
+    hold_too_short(&request, k);
+    request = read_with(seen->file, seen->bytes, 0, 0);
+    hold_too_short(&request, k);
+}
+
+/* ---- lightplan_check_starts */
+
+static void hold_verdict(struct lightplan_verdict verdict, unsigned refusal, size_t place)
+{
+    HOLD(verdict.refusal == refusal && verdict.place == place);
+    if (refusal)
+        HOLD(verdict.end == 0 && verdict.bound == 0);
+}
+
+/* checks starts that are lent so that none behind them can be read */
+static struct lightplan_verdict check_starts(const struct seen *seen, const uint16_t *starts, size_t count)
+{
+    uint16_t *lent = lent_out(&second_lent, 2 * count);
+    memcpy(lent, starts, 2 * count);
+    struct lightplan_verdict verdict = lightplan_check_starts(seen->file, seen->bytes, lent, count);
+    HOLD(!memcmp(lent, starts, 2 * count) && lent_kept(&second_lent, 2 * count));
+    return verdict;
+}
+
+static uint32_t end_of(const struct seen *seen, const uint16_t *starts)
+{
+    uint32_t end = 0;
+    for (size_t k = 0; k < seen->demands; k++)
+        if (end < (uint32_t)starts[k] + seen->widths[k])
+            end = (uint32_t)starts[k] + seen->widths[k];
+    return end;
+}
+
+/* an allowed plan is accepted with its end and the bound, whatever stands behind its starts; one start more, or less, or moved up is not */
+static void hold_allowed(const struct seen *seen, const uint16_t *allowed)
+{
+    size_t k = seen->demands;
+    uint16_t starts[LIGHTPLAN_DEMANDS + 2] = {0};
+    memcpy(starts, allowed, 2 * k);
+    starts[k] = starts[k + 1] = 65535;
+    for (size_t count = k; count <= k + 2; count += 2) {
+        struct lightplan_verdict verdict = check_starts(seen, starts, count);
+        hold_verdict(verdict, LIGHTPLAN_ANSWERED, 0);
+        HOLD(verdict.end == end_of(seen, allowed) && verdict.bound == seen->bound && seen->bound <= verdict.end);
+    }
+    if (k == 0)
+        return;
+    hold_verdict(check_starts(seen, starts, k - 1), LIGHTPLAN_NO_ROW, k - 1);
+    hold_verdict(check_starts(seen, starts, 0), LIGHTPLAN_NO_ROW, 0);
+    starts[k / 2] = (uint16_t)(seen->slots - seen->widths[k / 2] + 1);
+    hold_verdict(check_starts(seen, starts, k), LIGHTPLAN_END_ABOVE, k / 2);
+    starts[k / 2] = 65535;
+    hold_verdict(check_starts(seen, starts, k), LIGHTPLAN_END_ABOVE, k / 2);
+}
+
+/* ---- lightplan_search */
+
+static struct lightplan_answer search_with(const uint8_t *file, size_t bytes, uint32_t limit, size_t starts, size_t order)
+{
+    uint16_t *first = lent_out(&first_lent, 2 * starts), *second = lent_out(&second_lent, 2 * order);
+    return lightplan_search(file, bytes, limit, first, starts, second, order);
+}
+
+static void hold_no_answer(struct lightplan_answer answer, unsigned refusal, size_t place)
+{
+    HOLD(answer.refusal == refusal && answer.place == place);
+    HOLD(answer.outcome == 0 && answer.end == 0 && answer.bound == 0 && answer.steps == 0 && answer.reached == 0 && answer.ruled == 0);
+    hold_written(0);
+}
+
+static int same_answer(const struct lightplan_answer *a, const struct lightplan_answer *b)
+{
+    return a->refusal == b->refusal && a->place == b->place && a->outcome == b->outcome && a->end == b->end && a->bound == b->bound &&
+           a->steps == b->steps && a->reached == b->reached && a->ruled == b->ruled;
+}
+
+static uint64_t factorial(size_t n) { return n ? n * factorial(n - 1) : 1; }
+
+/* the rank of an order among all orders, from 1 */
+static uint64_t rank_of(const uint16_t *order, size_t count)
+{
+    uint64_t rank = 1;
+    for (size_t k = 0; k < count; k++)
+        for (size_t j = k + 1; j < count; j++)
+            if (order[j] < order[k])
+                rank += factorial(count - k - 1);
+    return rank;
+}
+
+static int is_order(const uint16_t *order, size_t count)
+{
+    uint32_t met = 0;
+    for (size_t k = 0; k < count; k++)
+        met |= order[k] < count ? UINT32_C(1) << order[k] : 0;
+    return met == (UINT32_C(1) << count) - 1;
+}
+
+/* the sums that the outcomes promise */
+static void hold_sums(const struct seen *seen, const struct lightplan_answer *answer, const uint16_t *order)
+{
+    uint64_t sum = answer->reached + answer->ruled, all = factorial(seen->demands);
+    HOLD(answer->bound == seen->bound);
+    if (answer->outcome == LIGHTPLAN_FINISHED && answer->end == answer->bound)
+        HOLD(sum == rank_of(order, seen->demands));
+    else if (answer->outcome == LIGHTPLAN_FINISHED || answer->outcome == LIGHTPLAN_NOTHING_FITS)
+        HOLD(sum == all);
+    else
+        HOLD(sum < all);
+}
+
+/* what a search gives within some room: its answer holds by itself; the plan is copied to `starts` and `order` */
+static struct lightplan_answer hold_search(const struct seen *seen, uint32_t limit, size_t room, uint16_t *starts, uint16_t *order)
+{
+    size_t k = seen->demands;
+    struct lightplan_answer answer = search_with(seen->file, seen->bytes, limit, room, room);
+    HOLD(answer.refusal == LIGHTPLAN_ANSWERED && answer.place == 0);
+    HOLD(answer.outcome <= LIGHTPLAN_UNFINISHED_EMPTY && answer.steps <= limit);
+    memcpy(starts, first_lent.first + LENT_BYTES - 2 * room, 2 * k);
+    memcpy(order, second_lent.first + LENT_BYTES - 2 * room, 2 * k);
+    hold_sums(seen, &answer, order);
+    if (answer.outcome == LIGHTPLAN_FINISHED || answer.outcome == LIGHTPLAN_UNFINISHED) {
+        hold_written(k);
+        HOLD(is_order(order, k) && answer.end == end_of(seen, starts) && seen->bound <= answer.end);
+        hold_allowed(seen, starts);
+    } else {
+        hold_written(0);
+        HOLD(answer.end == 0);
+    }
+    return answer;
+}
+
+/* one step less than a search took leaves it unfinished, and as many are enough */
+static void hold_limits(const struct seen *seen, const struct lightplan_answer *answer)
+{
+    uint16_t starts[LIGHTPLAN_SEARCHED], order[LIGHTPLAN_SEARCHED];
+    struct lightplan_answer other = hold_search(seen, answer->steps, seen->demands, starts, order);
+    HOLD(same_answer(answer, &other));
+    if (answer->steps == 0)
+        return;
+    other = hold_search(seen, answer->steps - 1, PLENTY, starts, order);
+    HOLD(other.outcome >= LIGHTPLAN_UNFINISHED && other.steps == answer->steps - 1);
+    HOLD(other.reached <= answer->reached && other.ruled <= answer->ruled);
+}
+
+static void test_search(const struct seen *seen)
+{
+    size_t k = seen->demands;
+    uint16_t starts[LIGHTPLAN_SEARCHED], order[LIGHTPLAN_SEARCHED], again[LIGHTPLAN_SEARCHED], order_again[LIGHTPLAN_SEARCHED];
+    if (k > LIGHTPLAN_SEARCHED) {
+        hold_no_answer(search_with(seen->file, seen->bytes, STEPS, PLENTY, PLENTY), LIGHTPLAN_TOO_MANY_TO_SEARCH, k);
+        hold_no_answer(search_with(seen->file, seen->bytes, STEPS, 0, 0), LIGHTPLAN_TOO_MANY_TO_SEARCH, k);
+        return;
+    }
+    struct lightplan_answer answer = hold_search(seen, STEPS, LIGHTPLAN_SEARCHED, starts, order);
+    struct lightplan_answer exact = hold_search(seen, STEPS, k, again, order_again);
+    HOLD(same_answer(&answer, &exact) && !memcmp(starts, again, 2 * k) && !memcmp(order, order_again, 2 * k));
+    hold_limits(seen, &answer);
+    if (k > 0) {
+        hold_no_answer(search_with(seen->file, seen->bytes, STEPS, k - 1, k), LIGHTPLAN_BUFFER_SHORT, k);
+        hold_no_answer(search_with(seen->file, seen->bytes, STEPS, k, k - 1), LIGHTPLAN_BUFFER_SHORT, k);
+        hold_no_answer(search_with(seen->file, seen->bytes, 0, 0, 0), LIGHTPLAN_BUFFER_SHORT, k);
+    }
+}
+
+/* ---- lightplan_check */
+
+static struct lightplan_verdict check_with(const struct seen *seen, const uint8_t *plan, size_t bytes, size_t room)
+{
+    uint16_t *first = lent_out(&first_lent, 2 * room);
+    return lightplan_check(seen->file, seen->bytes, plan, bytes, first, room);
+}
+
+/* the starts of a plan whose rows are whole and known, by listing position */
+static void rows_to_starts(const struct seen *seen, const uint8_t *plan, size_t bytes, uint16_t *starts)
+{
+    for (size_t at = 0; at < bytes; at += 7)
+        for (size_t k = 0; k < seen->demands; k++)
+            if (seen->idents[k] == two(plan + at + 3))
+                starts[k] = (uint16_t)two(plan + at + 5);
+}
+
+static void test_accepted(const struct seen *seen, const uint8_t *plan, size_t bytes)
+{
+    size_t k = seen->demands;
+    uint16_t starts[LIGHTPLAN_DEMANDS] = {0};
+    rows_to_starts(seen, plan, bytes, starts);
+    hold_allowed(seen, starts);
+    for (size_t room = k; room <= PLENTY; room += PLENTY - k) {
+        struct lightplan_verdict verdict = check_with(seen, plan, bytes, room);
+        hold_verdict(verdict, LIGHTPLAN_ANSWERED, 0);
+        HOLD(verdict.end == end_of(seen, starts) && verdict.bound == seen->bound);
+        HOLD(!memcmp(first_lent.first + LENT_BYTES - 2 * room, starts, 2 * k));
+        HOLD(lent_kept(&first_lent, 2 * k));
+    }
+    if (k > 0) {
+        hold_verdict(check_with(seen, plan, bytes, k - 1), LIGHTPLAN_BUFFER_SHORT, k);
+        HOLD(lent_kept(&first_lent, 0));
+    }
+}
+
+static void test_plan(const struct seen *seen, const uint8_t *plan, size_t bytes)
+{
+    uint16_t starts[LIGHTPLAN_DEMANDS] = {0};
+    struct lightplan_verdict verdict = check_with(seen, plan, bytes, PLENTY);
+    if (verdict.refusal == LIGHTPLAN_ANSWERED) {
+        test_accepted(seen, plan, bytes);
+        return;
+    }
+    hold_verdict(verdict, verdict.refusal, verdict.place);
+    HOLD(lent_kept(&first_lent, 0));
+    struct lightplan_verdict without_room = check_with(seen, plan, bytes, 0);
+    hold_verdict(without_room, verdict.refusal, verdict.place);
+    if (verdict.refusal == LIGHTPLAN_CLASH) {
+        rows_to_starts(seen, plan, bytes, starts);
+        hold_verdict(check_starts(seen, starts, seen->demands), LIGHTPLAN_CLASH, verdict.place);
+    }
+}
+
+/* ---- lightplan_frequency */
+
+/* the number that a block is refused with, or 0 */
+static unsigned block_fault(int n0, unsigned slots, unsigned guard, unsigned start, unsigned width)
+{
+    if (n0 < -400 || n0 > 400 || slots < 1 || slots > 384 || guard > 8)
+        return LIGHTPLAN_BAND_OUTSIDE;
+    if (width < 1 || width > slots)
+        return LIGHTPLAN_BAD_WIDTH;
+    return start + width > slots ? LIGHTPLAN_END_ABOVE : LIGHTPLAN_ANSWERED;
+}
+
+static void hold_frequency(int n0, unsigned slots, unsigned guard, unsigned start, unsigned width)
+{
+    struct lightplan_frequency_of centre =
+        lightplan_frequency((int16_t)n0, (uint16_t)slots, (uint8_t)guard, (uint16_t)start, (uint16_t)width);
+    unsigned fault = block_fault(n0, slots, guard, start, width);
+    int32_t n = fault ? 0 : n0 + 2 * (int32_t)start + (int32_t)width;
+    HOLD(centre.refusal == fault && centre.place == 0);
+    HOLD(centre.n == n && centre.m == (fault ? 0 : width));
+    HOLD(centre.mhz == (fault ? 0 : INT64_C(193100000) + INT64_C(6250) * n));
+}
+
+static void test_frequencies(void)
+{
+    static const int edges[] = {-32768, -401, -400, -399, -284, -1, 0, 1, 399, 400, 401, 32767};
+    static const unsigned counts[] = {0, 1, 2, 141, 383, 384, 385, 65535}, guards[] = {0, 1, 8, 9, 255};
+    for (size_t e = 0; e < sizeof edges / sizeof edges[0]; e++)
+        for (size_t s = 0; s < 8; s++)
+            for (size_t g = 0; g < 5; g++)
+                for (size_t b = 0; b < 64; b++)
+                    hold_frequency(edges[e], counts[s], guards[g], counts[b / 8], counts[b % 8]);
+    hold_frequency(-284, 384, 0, 0, 2);
+    hold_frequency(-284, 384, 0, 141, 2);
+    hold_frequency(-284, 384, 0, 383, 1);
+}
+
+/* ---- files */
+
+/* the bytes of a file, lent; 0 where there is no such file */
+static int lend_file(const char *name, struct lent *lent, const uint8_t **file, size_t *bytes)
+{
+    static uint8_t all[LENT_BYTES];
+    FILE *in = fopen(name, "rb");
+    if (!in)
+        return 0;
+    *bytes = fread(all, 1, sizeof all, in);
+    fclose(in);
+    *file = memcpy(lent_out(lent, *bytes), all, *bytes);
+    return 1;
+}
+
+/* a refused request is refused alike by every entry that takes it */
+static void test_refused(const uint8_t *file, size_t bytes, const struct lightplan_request *request)
+{
+    struct seen seen = {.file = file, .bytes = bytes};
+    uint16_t none = 0;
+    hold_no_request(request);
+    HOLD(request->refusal != LIGHTPLAN_BUFFER_SHORT);
+    hold_no_answer(search_with(file, bytes, STEPS, PLENTY, PLENTY), request->refusal, request->place);
+    hold_no_answer(search_with(file, bytes, 0, 0, 0), request->refusal, request->place);
+    hold_verdict(check_with(&seen, (const uint8_t *)&none, 0, 0), request->refusal, request->place);
+    hold_verdict(check_with(&seen, (const uint8_t *)&none, 2, PLENTY), request->refusal, request->place);
+    HOLD(lent_kept(&first_lent, 0));
+    hold_verdict(check_starts(&seen, &none, 0), request->refusal, request->place);
+    hold_verdict(check_starts(&seen, &none, 1), request->refusal, request->place);
+}
+
+static void test_file(const char *name)
+{
+    static struct seen seen;
+    const uint8_t *file, *plan;
+    size_t bytes, plan_bytes, stem = strlen(name) - strlen(".request");
+    char plan_name[NAME_BYTES];
+    now_testing = name;
+    HOLD(lend_file(name, &request_lent, &file, &bytes));
+    struct lightplan_request request = read_with(file, bytes, PLENTY, PLENTY);
+    if (request.refusal != LIGHTPLAN_ANSWERED) {
+        test_refused(file, bytes, &request);
+        return;
+    }
+    see(&seen, file, bytes);
+    test_read(&seen);
+    test_search(&seen);
+    snprintf(plan_name, sizeof plan_name, "%.*s.plan", (int)stem, name);
+    if (lend_file(plan_name, &plan_lent, &plan, &plan_bytes))
+        test_plan(&seen, plan, plan_bytes);
+    HOLD(lent_kept(&request_lent, bytes) && lent_kept(&plan_lent, plan_lent.bytes));
+}
+
+int main(int count, char **words)
+{
+    lent_make(&request_lent);
+    lent_make(&plan_lent);
+    lent_make(&first_lent);
+    lent_make(&second_lent);
+    lent_out(&plan_lent, 0);
+    test_frequencies();
+    for (int k = 1; k < count; k++) {
+        if (!strstr(words[k], ".request")) {
+            fprintf(stderr, "entries: not a request file: %s\n", words[k]);
+            return 2;
+        }
+        test_file(words[k]);
+    }
+    printf("%d files, %lu comparisons\n", count - 1, compared);
+    return 0;
+}

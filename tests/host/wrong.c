@@ -1,0 +1,142 @@
+/* A library that answers wrongly, to show that the tests notice. Linked with --wrap for each entry; the variable WRONG picks one of the
+   faults below by its number. Without it every answer goes through as it is. */
+#include "../../hosts/c/lightplan.h"
+#include <stdlib.h>
+
+enum fault {
+    READ_BOUND = 1,
+    READ_WIDTH,
+    READ_IDENT,
+    READ_LINKS,
+    READ_BEHIND,
+    READ_WRITES_REFUSED,
+    READ_PLACE,
+    SEARCH_END,
+    SEARCH_STEPS,
+    SEARCH_REACHED,
+    SEARCH_RULED,
+    SEARCH_START,
+    SEARCH_ORDER,
+    SEARCH_FINISHED,
+    SEARCH_WRITES_WITHOUT,
+    SEARCH_BEHIND,
+    SEARCH_PLACE,
+    SEARCH_READS_ON,
+    CHECK_ACCEPTS,
+    CHECK_REFUSES,
+    CHECK_END,
+    CHECK_START,
+    CHECK_BEHIND,
+    CHECK_READS_ON,
+    CHECK_PLACE,
+    STARTS_CLASH_FIRST,
+    STARTS_READS_ON,
+    STARTS_END,
+    FREQUENCY_N,
+    FREQUENCY_MHZ,
+    FREQUENCY_REFUSES,
+    FAULTS
+};
+
+static int is(enum fault fault)
+{
+    const char *word = getenv("WRONG");
+    return word && atoi(word) == (int)fault;
+}
+
+static volatile uint8_t looked_at;
+
+struct lightplan_request __real_lightplan_read(const uint8_t *, size_t, uint16_t *, size_t, uint16_t *, size_t);
+
+struct lightplan_request __wrap_lightplan_read(const uint8_t *file, size_t file_bytes, uint16_t *idents, size_t idents_count,
+                                               uint16_t *widths, size_t widths_count)
+{
+    struct lightplan_request r = __real_lightplan_read(file, file_bytes, idents, idents_count, widths, widths_count);
+    r.place += is(READ_PLACE) && r.refusal;
+    if (r.refusal && is(READ_WRITES_REFUSED) && widths_count)
+        widths[0] = 0;
+    if (r.refusal)
+        return r;
+    r.bound += is(READ_BOUND);
+    r.links += is(READ_LINKS);
+    if (r.demands && is(READ_WIDTH))
+        widths[0]++;
+    if (r.demands && is(READ_IDENT))
+        idents[0] ^= 256;
+    if (r.demands < widths_count && is(READ_BEHIND))
+        widths[r.demands] = 0;
+    return r;
+}
+
+struct lightplan_answer __real_lightplan_search(const uint8_t *, size_t, uint32_t, uint16_t *, size_t, uint16_t *, size_t);
+
+struct lightplan_answer __wrap_lightplan_search(const uint8_t *file, size_t file_bytes, uint32_t limit, uint16_t *starts,
+                                                size_t starts_count, uint16_t *order, size_t order_count)
+{
+    struct lightplan_answer a = __real_lightplan_search(file, file_bytes, limit, starts, starts_count, order, order_count);
+    int plan = !a.refusal && a.end;
+    if (is(SEARCH_READS_ON))
+        looked_at = file[file_bytes];
+    a.place += is(SEARCH_PLACE) && a.refusal;
+    a.end += is(SEARCH_END) && plan;
+    a.steps += is(SEARCH_STEPS) && !a.refusal;
+    a.reached += is(SEARCH_REACHED) && plan;
+    a.ruled += is(SEARCH_RULED) && !a.refusal;
+    if (plan && is(SEARCH_START))
+        starts[0]++;
+    if (plan && is(SEARCH_ORDER))
+        order[0] = order[order_count - 1];
+    if (plan && is(SEARCH_FINISHED))
+        a.outcome = LIGHTPLAN_FINISHED;
+    if (!plan && starts_count && is(SEARCH_WRITES_WITHOUT))
+        starts[0] = 0;
+    if (plan && is(SEARCH_BEHIND))
+        starts[starts_count - 1] = 0;
+    return a;
+}
+
+struct lightplan_verdict __real_lightplan_check(const uint8_t *, size_t, const uint8_t *, size_t, uint16_t *, size_t);
+
+struct lightplan_verdict __wrap_lightplan_check(const uint8_t *file, size_t file_bytes, const uint8_t *plan, size_t plan_bytes,
+                                                uint16_t *starts, size_t starts_count)
+{
+    struct lightplan_verdict v = __real_lightplan_check(file, file_bytes, plan, plan_bytes, starts, starts_count);
+    if (is(CHECK_READS_ON))
+        looked_at = plan[plan_bytes];
+    v.place += is(CHECK_PLACE) && v.refusal;
+    if (v.refusal && is(CHECK_ACCEPTS))
+        v = (struct lightplan_verdict){0};
+    if (v.end && is(CHECK_REFUSES))
+        v = (struct lightplan_verdict){.refusal = LIGHTPLAN_CLASH};
+    v.end += is(CHECK_END) && v.end;
+    if (v.end && is(CHECK_START))
+        starts[0]++;
+    if (starts_count && is(CHECK_BEHIND))
+        starts[starts_count - 1] = 0;
+    return v;
+}
+
+struct lightplan_verdict __real_lightplan_check_starts(const uint8_t *, size_t, const uint16_t *, size_t);
+
+struct lightplan_verdict __wrap_lightplan_check_starts(const uint8_t *file, size_t file_bytes, const uint16_t *starts, size_t starts_count)
+{
+    struct lightplan_verdict v = __real_lightplan_check_starts(file, file_bytes, starts, starts_count);
+    if (is(STARTS_READS_ON))
+        looked_at = (uint8_t)starts[starts_count];
+    if (v.refusal == LIGHTPLAN_END_ABOVE && is(STARTS_CLASH_FIRST))
+        v.refusal = LIGHTPLAN_CLASH;
+    v.end += is(STARTS_END) && !v.refusal;
+    return v;
+}
+
+struct lightplan_frequency_of __real_lightplan_frequency(int16_t, uint16_t, uint8_t, uint16_t, uint16_t);
+
+struct lightplan_frequency_of __wrap_lightplan_frequency(int16_t n0, uint16_t slots, uint8_t guard, uint16_t start, uint16_t width)
+{
+    struct lightplan_frequency_of f = __real_lightplan_frequency(n0, slots, guard, start, width);
+    f.n += is(FREQUENCY_N) && !f.refusal;
+    f.mhz -= is(FREQUENCY_MHZ) && !f.refusal ? 6250 : 0;
+    if (start + width == slots && is(FREQUENCY_REFUSES))
+        f = (struct lightplan_frequency_of){.refusal = LIGHTPLAN_END_ABOVE};
+    return f;
+}

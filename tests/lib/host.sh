@@ -1,0 +1,20 @@
+# Sourced, after x86.sh and from the top of the repository, by what links C with the proved library.
+#   host_library    makes the archive of the library where it is not there or older than the code
+#   $HOST_LIBRARY   the archive
+#   $HOST_C         how C is compiled here
+#   $HOST_DESK      the sources of lightdesk
+
+HOST_LIBRARY=target/staticlib/libhost.a
+HOST_C="-std=c11 -O2 -Wall -Wextra -Wpedantic -Werror"
+HOST_DESK="hosts/c/lightdesk.c hosts/c/refusals.c"
+
+host_library() {
+    local said
+    if [ -e $HOST_LIBRARY ] && [ -z "$(find crates crates.txt -newer $HOST_LIBRARY -name '*.rt' -print -quit)" ]; then
+        return
+    fi
+    if ! said=$(rt staticlib host 2>&1); then
+        echo "$said" >&2
+        return 1
+    fi
+}
