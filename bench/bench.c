@@ -1,5 +1,6 @@
 /* Runs the walks on the same requests, one after the other and five times over, and prints how many steps each takes in a second. Any
    difference in the counts, the starts or the order ends the run. */
+#define _POSIX_C_SOURCE 199309L
 #include "walk.h"
 #include <stdio.h>
 #include <stdlib.h>
@@ -13,16 +14,10 @@ struct walker {
     void (*walk)(const struct task *task, struct answer *answer);
 };
 
-#ifdef PROVED
-void walk_proved(const struct task *task, struct answer *answer);
-#endif
-
 static const struct walker walkers[] = {
     {"plain", walk_plain},
     {"kept", walk_kept},
-#ifdef PROVED
     {"proved", walk_proved},
-#endif
 };
 
 enum { WALKERS = sizeof walkers / sizeof walkers[0] };
@@ -153,9 +148,10 @@ static void bench(int count, uint32_t limit)
 int main(int count, char **words)
 {
     seed = count > 1 ? strtoull(words[1], NULL, 10) : 1;
-    printf("millions of steps in a second\n");
-    bench(12, 2000000);
-    bench(16, 2000000);
-    bench(20, 2000000);
+    uint32_t limit = count > 2 ? (uint32_t)strtoul(words[2], NULL, 10) : 2000000;
+    printf("millions of steps in a second, %u steps at most for each request\n", limit);
+    bench(12, limit);
+    bench(16, limit);
+    bench(20, limit);
     return 0;
 }

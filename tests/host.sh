@@ -264,7 +264,7 @@ x86_run "$program" <examples/R.request >"$work/R"
 for fault in 2 3 8 9 10 11 12 29 30; do
     unlike $fault "$work/R" search examples/R.request
 done
-printf 'refused 1 40\n' >"$work/refused"
+printf 'refused 1 35\n' >"$work/refused"
 head -c 42 examples/R.request >"$work/cut"
 same "$work/refused" search "$work/cut"
 unlike 7 "$work/refused" search "$work/cut"
