@@ -110,13 +110,17 @@ static size_t touched(void (*call)(void))
     return sizeof stack - kept;
 }
 
-/* prints what an entry needs beyond what a call of nothing does, and sees that it answered as it was meant to */
+/* prints what an entry needs beyond what a call of nothing does; sees that it answered as it was meant to, and that the header names enough */
 static void measure(const char *what, void (*call)(void), unsigned meant_refusal, unsigned meant_end)
 {
     size_t bytes = touched(call) - touched(call_nothing);
     touched(call);
     if (refusal != meant_refusal || end != meant_end) {
         printf("%s: answered %u, end %u\n", what, refusal, end);
+        exit(1);
+    }
+    if (bytes > LIGHTPLAN_STACK) {
+        printf("%s: %zu bytes, more than LIGHTPLAN_STACK\n", what, bytes);
         exit(1);
     }
     printf("%-64s %6zu\n", what, bytes);

@@ -50,7 +50,7 @@ compile() {
 }
 
 sanitize
-entries="tests/host/entries.c tests/host/lent.c"
+entries="tests/host/entries.c tests/host/lent.c tests/host/seen.c"
 wrong=tests/host/wrong.c
 for entry in read search check check_starts frequency; do
     wrong="$wrong -Wl,--wrap=lightplan_$entry"
@@ -239,6 +239,10 @@ echo "as the second program's checks: $passed so far"
 x86_run "$work/entries" examples/*.request "$work"/*/*/*.request | tee "$work/counted" || failed "the entries"
 files=$(sed -n 's/^\([0-9]*\) files, .*/\1/p' "$work/counted")
 passed=$((passed + files))
+
+# The walks in C answer as the proved search does, and the stack that the header names is enough.
+bench/run "$seed" 5000 >"$work/bench" 2>&1 || { cat "$work/bench"; failed "bench/run"; }
+passed=$((passed + 1))
 
 # ---- a library that answers wrongly is noticed
 

@@ -3,9 +3,8 @@
    a lent buffer is written.
      entries REQUEST..
    The first difference is printed and ends the run with status 1. The last line counts the files and what was compared. */
-#include "../../hosts/c/lightplan.h"
 #include "lent.h"
-#include <inttypes.h>
+#include "seen.h"
 #include <stdio.h>
 #include <stdlib.h>
 #include <string.h>
@@ -18,16 +17,6 @@ static unsigned long compared;
 /* lent to the calls: two files and two buffers */
 static struct lent request_lent, plan_lent, first_lent, second_lent;
 
-/* what a request file says, read off an accepted file's bytes */
-struct seen {
-    const uint8_t *file;
-    size_t bytes, links, demands;
-    int n0;
-    unsigned slots, guard;
-    uint32_t bound;
-    uint16_t idents[LIGHTPLAN_DEMANDS], widths[LIGHTPLAN_DEMANDS];
-};
-
 static void hold_at(int line, int holds, const char *what)
 {
     compared++;
@@ -39,44 +28,11 @@ static void hold_at(int line, int holds, const char *what)
 
 #define HOLD(what) hold_at(__LINE__, (what), #what)
 
-static unsigned two(const uint8_t *bytes) { return bytes[0] * 256u + bytes[1]; }
-
 /* a call writes K entries of both buffers and nothing else, or nothing at all */
 static void hold_written(size_t entries)
 {
     HOLD(lent_kept(&first_lent, 2 * entries));
     HOLD(lent_kept(&second_lent, 2 * entries));
-}
-
-/* the most that a link needs: its demands' widths and a guard between each two */
-static uint32_t bound_of(const struct seen *seen)
-{
-    int32_t needs[64], most = 0;
-    for (int l = 0; l < 64; l++)
-        needs[l] = -(int32_t)seen->guard;
-    for (size_t at = 8 + 5 * seen->links; at < seen->bytes; at += 3 + two(seen->file + at + 1))
-        for (unsigned k = 4; k < two(seen->file + at + 1); k++) {
-            int32_t *need = &needs[seen->file[at + 3 + k]];
-            *need += (int32_t)(two(seen->file + at + 5) + seen->guard);
-            if (most < *need)
-                most = *need;
-        }
-    return (uint32_t)most;
-}
-
-static void see(struct seen *seen, const uint8_t *file, size_t bytes)
-{
-    *seen = (struct seen){.file = file, .bytes = bytes, .slots = two(file + 5), .guard = file[7]};
-    seen->n0 = (int)(two(file + 3) ^ 0x8000) - 0x8000;
-    for (size_t at = 8; at < bytes; at += 3 + two(file + at + 1)) {
-        if (file[at] == 2) {
-            seen->links++;
-        } else {
-            seen->idents[seen->demands] = (uint16_t)two(file + at + 3);
-            seen->widths[seen->demands++] = (uint16_t)two(file + at + 5);
-        }
-    }
-    seen->bound = bound_of(seen);
 }
 
 /* ---- lightplan_read */
@@ -147,15 +103,6 @@ static struct lightplan_verdict check_starts(const struct seen *seen, const uint
     return verdict;
 }
 
-static uint32_t end_of(const struct seen *seen, const uint16_t *starts)
-{
-    uint32_t end = 0;
-    for (size_t k = 0; k < seen->demands; k++)
-        if (end < (uint32_t)starts[k] + seen->widths[k])
-            end = (uint32_t)starts[k] + seen->widths[k];
-    return end;
-}
-
 /* an allowed plan is accepted with its end and the bound, whatever stands behind its starts; one start more, or less, or moved up is not */
 static void hold_allowed(const struct seen *seen, const uint16_t *allowed)
 {
@@ -199,31 +146,10 @@ static int same_answer(const struct lightplan_answer *a, const struct lightplan_
            a->steps == b->steps && a->reached == b->reached && a->ruled == b->ruled;
 }
 
-static uint64_t factorial(size_t n) { return n ? n * factorial(n - 1) : 1; }
-
-/* the rank of an order among all orders, from 1 */
-static uint64_t rank_of(const uint16_t *order, size_t count)
-{
-    uint64_t rank = 1;
-    for (size_t k = 0; k < count; k++)
-        for (size_t j = k + 1; j < count; j++)
-            if (order[j] < order[k])
-                rank += factorial(count - k - 1);
-    return rank;
-}
-
-static int is_order(const uint16_t *order, size_t count)
-{
-    uint32_t met = 0;
-    for (size_t k = 0; k < count; k++)
-        met |= order[k] < count ? UINT32_C(1) << order[k] : 0;
-    return met == (UINT32_C(1) << count) - 1;
-}
-
 /* the sums that the outcomes promise */
 static void hold_sums(const struct seen *seen, const struct lightplan_answer *answer, const uint16_t *order)
 {
-    uint64_t sum = answer->reached + answer->ruled, all = factorial(seen->demands);
+    uint64_t sum = answer->reached + answer->ruled, all = orders_of(seen->demands);
     HOLD(answer->bound == seen->bound);
     if (answer->outcome == LIGHTPLAN_FINISHED && answer->end == answer->bound)
         HOLD(sum == rank_of(order, seen->demands));
@@ -295,20 +221,11 @@ static struct lightplan_verdict check_with(const struct seen *seen, const uint8_
     return lightplan_check(seen->file, seen->bytes, plan, bytes, first, room);
 }
 
-/* the starts of a plan whose rows are whole and known, by listing position */
-static void rows_to_starts(const struct seen *seen, const uint8_t *plan, size_t bytes, uint16_t *starts)
-{
-    for (size_t at = 0; at < bytes; at += 7)
-        for (size_t k = 0; k < seen->demands; k++)
-            if (seen->idents[k] == two(plan + at + 3))
-                starts[k] = (uint16_t)two(plan + at + 5);
-}
-
 static void test_accepted(const struct seen *seen, const uint8_t *plan, size_t bytes)
 {
     size_t k = seen->demands;
     uint16_t starts[LIGHTPLAN_DEMANDS] = {0};
-    rows_to_starts(seen, plan, bytes, starts);
+    starts_of_rows(seen, plan, bytes, starts);
     hold_allowed(seen, starts);
     for (size_t room = k; room <= PLENTY; room += PLENTY - k) {
         struct lightplan_verdict verdict = check_with(seen, plan, bytes, room);
@@ -336,22 +253,12 @@ static void test_plan(const struct seen *seen, const uint8_t *plan, size_t bytes
     struct lightplan_verdict without_room = check_with(seen, plan, bytes, 0);
     hold_verdict(without_room, verdict.refusal, verdict.place);
     if (verdict.refusal == LIGHTPLAN_CLASH) {
-        rows_to_starts(seen, plan, bytes, starts);
+        starts_of_rows(seen, plan, bytes, starts);
         hold_verdict(check_starts(seen, starts, seen->demands), LIGHTPLAN_CLASH, verdict.place);
     }
 }
 
 /* ---- lightplan_frequency */
-
-/* the number that a block is refused with, or 0 */
-static unsigned block_fault(int n0, unsigned slots, unsigned guard, unsigned start, unsigned width)
-{
-    if (n0 < -400 || n0 > 400 || slots < 1 || slots > 384 || guard > 8)
-        return LIGHTPLAN_BAND_OUTSIDE;
-    if (width < 1 || width > slots)
-        return LIGHTPLAN_BAD_WIDTH;
-    return start + width > slots ? LIGHTPLAN_END_ABOVE : LIGHTPLAN_ANSWERED;
-}
 
 static void hold_frequency(int n0, unsigned slots, unsigned guard, unsigned start, unsigned width)
 {
@@ -376,6 +283,54 @@ static void test_frequencies(void)
     hold_frequency(-284, 384, 0, 0, 2);
     hold_frequency(-284, 384, 0, 141, 2);
     hold_frequency(-284, 384, 0, 383, 1);
+}
+
+/* ---- what needs no file */
+
+/* with nothing lent, a pointer is not looked at */
+static void test_nothing(void)
+{
+    struct lightplan_request request = lightplan_read(NULL, 0, NULL, 0, NULL, 0);
+    struct lightplan_answer answer = lightplan_search(NULL, 0, STEPS, NULL, 0, NULL, 0);
+    HOLD(request.refusal == LIGHTPLAN_WRONG_TAG && request.place == 0);
+    HOLD(answer.refusal == LIGHTPLAN_WRONG_TAG && answer.place == 0);
+    hold_verdict(lightplan_check(NULL, 0, NULL, 0, NULL, 0), LIGHTPLAN_WRONG_TAG, 0);
+    hold_verdict(lightplan_check_starts(NULL, 0, NULL, 0), LIGHTPLAN_WRONG_TAG, 0);
+}
+
+/* a band and a link, no demand: nothing lent is enough for every answer */
+static void test_no_demand(void)
+{
+    static const uint8_t file[13] = {1, 0, 5, 0, 0, 0, 1, 0, 2, 0, 2, 0, 1};
+    struct lightplan_request request = lightplan_read(file, sizeof file, NULL, 0, NULL, 0);
+    struct lightplan_answer answer = lightplan_search(file, sizeof file, 0, NULL, 0, NULL, 0);
+    HOLD(request.refusal == LIGHTPLAN_ANSWERED && request.slots == 1 && request.links == 1 && request.demands == 0 && request.bound == 0);
+    HOLD(answer.refusal == LIGHTPLAN_ANSWERED && answer.outcome == LIGHTPLAN_FINISHED && answer.steps == 0 && answer.reached == 1);
+    hold_verdict(lightplan_check(file, sizeof file, NULL, 0, NULL, 0), LIGHTPLAN_ANSWERED, 0);
+    hold_verdict(lightplan_check_starts(file, sizeof file, NULL, 0), LIGHTPLAN_ANSWERED, 0);
+}
+
+/* three demands on two links, with every number known */
+static void test_known(void)
+{
+    static const uint8_t file[43] = {
+        1, 0, 5, 254, 228, 1, 128, 0,
+        2, 0, 2, 0, 1,
+        2, 0, 2, 1, 2,
+        3, 0, 5, 0, 10, 0, 2, 0,
+        3, 0, 6, 0, 20, 0, 1, 0, 1,
+        3, 0, 5, 0, 30, 0, 3, 1,
+    };
+    static const uint16_t found[3] = {0, 3, 0}, order[3] = {0, 2, 1}, clashing[3] = {0, 2, 2};
+    struct lightplan_answer answer = search_with(file, sizeof file, 5, 3, 3);
+    HOLD(answer.outcome == LIGHTPLAN_FINISHED && answer.end == 4 && answer.bound == 4);
+    HOLD(answer.steps == 5 && answer.reached == 2 && answer.ruled == 0);
+    HOLD(!memcmp(first_lent.first + LENT_BYTES - 6, found, 6) && !memcmp(second_lent.first + LENT_BYTES - 6, order, 6));
+    answer = search_with(file, sizeof file, 4, 3, 3);
+    HOLD(answer.outcome == LIGHTPLAN_UNFINISHED && answer.end == 6 && answer.steps == 4);
+    hold_verdict(lightplan_check_starts(file, sizeof file, clashing, 3), LIGHTPLAN_CLASH, 2);
+    hold_verdict(lightplan_check_starts(file, sizeof file, NULL, 0), LIGHTPLAN_NO_ROW, 0);
+    hold_verdict(lightplan_check(file, sizeof file, NULL, 0, NULL, 0), LIGHTPLAN_NO_ROW, 0);
 }
 
 /* ---- files */
@@ -439,6 +394,9 @@ int main(int count, char **words)
     lent_make(&second_lent);
     lent_out(&plan_lent, 0);
     test_frequencies();
+    test_nothing();
+    test_no_demand();
+    test_known();
     for (int k = 1; k < count; k++) {
         if (!strstr(words[k], ".request")) {
             fprintf(stderr, "entries: not a request file: %s\n", words[k]);

@@ -25,11 +25,11 @@ void *lent_out(struct lent *lent, size_t bytes)
     return lent->first + LENT_BYTES - bytes;
 }
 
+/* whether some bytes are as filled */
+static int filled(const unsigned char *bytes, size_t count) { return !count || (bytes[0] == FILLED && !memcmp(bytes, bytes + 1, count - 1)); }
+
 int lent_kept(const struct lent *lent, size_t written)
 {
-    size_t given = LENT_BYTES - lent->bytes;
-    for (size_t k = 0; k < LENT_BYTES; k++)
-        if ((k < given || k >= given + written) && lent->first[k] != FILLED)
-            return 0;
-    return 1;
+    size_t given = LENT_BYTES - lent->bytes, behind = given + written;
+    return filled(lent->first, given) && filled(lent->first + behind, LENT_BYTES - behind);
 }

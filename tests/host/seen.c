@@ -1,0 +1,80 @@
+#include "seen.h"
+
+static unsigned two(const uint8_t *bytes) { return bytes[0] * 256u + bytes[1]; }
+
+/* the most that a link needs: its demands' widths and a guard between each two */
+static uint32_t bound_of(const struct seen *seen)
+{
+    int32_t needs[64], most = 0;
+    for (int l = 0; l < 64; l++)
+        needs[l] = -(int32_t)seen->guard;
+    for (size_t at = 8 + 5 * seen->links; at < seen->bytes; at += 3 + two(seen->file + at + 1))
+        for (unsigned k = 4; k < two(seen->file + at + 1); k++) {
+            int32_t *need = &needs[seen->file[at + 3 + k]];
+            *need += (int32_t)(two(seen->file + at + 5) + seen->guard);
+            if (most < *need)
+                most = *need;
+        }
+    return (uint32_t)most;
+}
+
+void see(struct seen *seen, const uint8_t *file, size_t bytes)
+{
+    *seen = (struct seen){.file = file, .bytes = bytes, .slots = two(file + 5), .guard = file[7]};
+    seen->n0 = (int)(two(file + 3) ^ 0x8000) - 0x8000;
+    for (size_t at = 8; at < bytes; at += 3 + two(file + at + 1)) {
+        if (file[at] == 2) {
+            seen->links++;
+        } else {
+            seen->idents[seen->demands] = (uint16_t)two(file + at + 3);
+            seen->widths[seen->demands++] = (uint16_t)two(file + at + 5);
+        }
+    }
+    seen->bound = bound_of(seen);
+}
+
+uint32_t end_of(const struct seen *seen, const uint16_t *starts)
+{
+    uint32_t end = 0;
+    for (size_t k = 0; k < seen->demands; k++)
+        if (end < (uint32_t)starts[k] + seen->widths[k])
+            end = (uint32_t)starts[k] + seen->widths[k];
+    return end;
+}
+
+uint64_t orders_of(size_t count) { return count ? count * orders_of(count - 1) : 1; }
+
+uint64_t rank_of(const uint16_t *order, size_t count)
+{
+    uint64_t rank = 1;
+    for (size_t k = 0; k < count; k++)
+        for (size_t j = k + 1; j < count; j++)
+            if (order[j] < order[k])
+                rank += orders_of(count - k - 1);
+    return rank;
+}
+
+int is_order(const uint16_t *order, size_t count)
+{
+    uint32_t met = 0;
+    for (size_t k = 0; k < count; k++)
+        met |= order[k] < count ? UINT32_C(1) << order[k] : 0;
+    return met == (UINT32_C(1) << count) - 1;
+}
+
+void starts_of_rows(const struct seen *seen, const uint8_t *plan, size_t bytes, uint16_t *starts)
+{
+    for (size_t at = 0; at < bytes; at += 7)
+        for (size_t k = 0; k < seen->demands; k++)
+            if (seen->idents[k] == two(plan + at + 3))
+                starts[k] = (uint16_t)two(plan + at + 5);
+}
+
+unsigned block_fault(int n0, unsigned slots, unsigned guard, unsigned start, unsigned width)
+{
+    if (n0 < -400 || n0 > 400 || slots < 1 || slots > 384 || guard > 8)
+        return LIGHTPLAN_BAND_OUTSIDE;
+    if (width < 1 || width > slots)
+        return LIGHTPLAN_BAD_WIDTH;
+    return start + width > slots ? LIGHTPLAN_END_ABOVE : LIGHTPLAN_ANSWERED;
+}

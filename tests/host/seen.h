@@ -1,0 +1,36 @@
+/* What a few lines of C work out by themselves, to hold the library's answers against. */
+#ifndef SEEN_H
+#define SEEN_H
+
+#include "../../hosts/c/lightplan.h"
+
+/* what a request file says, read off an accepted file's bytes */
+struct seen {
+    const uint8_t *file;
+    size_t bytes, links, demands;
+    int n0;
+    unsigned slots, guard;
+    uint32_t bound;
+    uint16_t idents[LIGHTPLAN_DEMANDS], widths[LIGHTPLAN_DEMANDS];
+};
+
+/* Reads off what a request file says that was accepted. */
+void see(struct seen *seen, const uint8_t *file, size_t bytes);
+
+/* The largest end of some starts, by listing position. */
+uint32_t end_of(const struct seen *seen, const uint16_t *starts);
+
+/* The starts of a plan file whose rows are whole and known, by listing position. */
+void starts_of_rows(const struct seen *seen, const uint8_t *plan, size_t bytes, uint16_t *starts);
+
+/* Whether each of so many listing positions, at most 20, is there. */
+int is_order(const uint16_t *order, size_t count);
+
+/* How many orders there are of so many demands, and the rank of one among them, from 1, as they are listed. */
+uint64_t orders_of(size_t count);
+uint64_t rank_of(const uint16_t *order, size_t count);
+
+/* The number that a block is refused with, or 0. */
+unsigned block_fault(int n0, unsigned slots, unsigned guard, unsigned start, unsigned width);
+
+#endif
