@@ -45,7 +45,7 @@ static void draw_route(int links, const int *from, const int *to, int *route)
 static void put(struct task *task, int bytes, int number)
 {
     while (bytes-- > 0)
-        task->file[task->length++] = number >> 8 * bytes;
+        task->file[task->length++] = (unsigned)number >> 8 * bytes;
 }
 
 /* the largest need of a link, and who meets whom */

@@ -1,7 +1,8 @@
 #!/usr/bin/env bash
 # Tests the C host: the library's entries called from C with lent memory that is looked at afterwards, and lightdesk held against the
-# program lightplan and against the second program's checks of plans, on stored and random files. The C is compiled with the
-# sanitizers that run here. SEED=... repeats a run.
+# program lightplan and against the second program's checks of plans, on stored and random files. All C is compiled with UBSan; where
+# AddressSanitizer runs, the entries are called on every file under it, and lightdesk says all that it has words for. SEED=... repeats
+# a run.
 # The last line counts the runs: "N passed, 0 failed". The first difference ends it with a non-zero status.
 set -euo pipefail
 cd "$(dirname "$0")/.."
@@ -29,27 +30,27 @@ failed() {
 
 # ---- what is built
 
-# sanitize: the sanitizers with which a C program runs here. AddressSanitizer wants more room than an emulator has to give.
-sanitize() {
+# The sanitizers with which a C program runs here. AddressSanitizer wants more room than an emulator has to give.
+all_sanitizers() {
     printf 'int main(void) { return 0; }\n' >"$work/trial.c"
     "$X86_CC" -fsanitize=address -o "$work/trial" "$work/trial.c"
-    sanitizers=undefined
+    strict=undefined
     if ([ $X86_NATIVE = yes ] || ulimit -v 33554432; x86_run "$work/trial") >/dev/null 2>&1; then
-        sanitizers=undefined,address
+        strict=undefined,address
     else
         echo "left out: AddressSanitizer, which does not run on this machine"
     fi
 }
 
-# compile NAME SOURCE..: a program with the sanitizers, linked with the library
+# compile SANITIZERS NAME SOURCE..: a program linked with the library
 compile() {
-    local name=$1
-    shift
+    local sanitizers=$1 name=$2
+    shift 2
     # shellcheck disable=SC2086
-    "$X86_CC" $HOST_C -g -fsanitize=$sanitizers -fno-sanitize-recover=all -o "$work/$name" "$@" "$HOST_LIBRARY"
+    "$X86_CC" $HOST_C -g -fsanitize="$sanitizers" -fno-sanitize-recover=all -o "$work/$name" "$@" "$HOST_LIBRARY"
 }
 
-sanitize
+all_sanitizers
 entries="tests/host/entries.c tests/host/lent.c tests/host/seen.c"
 wrong=tests/host/wrong.c
 for entry in read search check check_starts frequency; do
@@ -57,10 +58,11 @@ for entry in read search check check_starts frequency; do
 done
 # shellcheck disable=SC2086
 {
-    compile lightdesk $HOST_DESK
-    compile lightdesk-wrong $HOST_DESK $wrong
-    compile entries $entries
-    compile entries-wrong $entries $wrong
+    compile undefined lightdesk $HOST_DESK
+    compile undefined lightdesk-wrong $HOST_DESK $wrong
+    compile undefined entries-wrong $entries $wrong
+    compile $strict lightdesk-strict $HOST_DESK
+    compile $strict entries $entries
 }
 hosts/c/build.sh
 
@@ -94,7 +96,7 @@ header
 # says STATUS LINE ARGUMENT..: lightdesk ends with this status, and the last line printed is this one
 says() {
     local status=0
-    x86_run "$work/lightdesk" "${@:3}" >"$work/printed" 2>"$work/said" || status=$?
+    x86_run "$work/lightdesk-strict" "${@:3}" >"$work/printed" 2>"$work/said" || status=$?
     [ $status = "$1" ] || failed "status $status, not $1: lightdesk ${*:3}"
     [ "$(tail -n 1 "$work/printed")" = "$2" ] || failed "other words: lightdesk ${*:3}: $(tail -n 1 "$work/printed")"
     passed=$((passed + 1))
@@ -163,7 +165,7 @@ streams() {
     local words
     for words in --help 'search examples/R.request' 'check examples/nsfnet91.request examples/nsfnet91.plan' 'search /dev/null'; do
         # shellcheck disable=SC2086
-        ! x86_run "$work/lightdesk" $words >/dev/full 2>"$work/said" || failed "a full disk goes unnoticed: lightdesk $words"
+        ! x86_run "$work/lightdesk-strict" $words >/dev/full 2>"$work/said" || failed "a full disk goes unnoticed: lightdesk $words"
         grep -q '^lightdesk: standard output: ' "$work/said" || failed "no word about a full disk: lightdesk $words"
         passed=$((passed + 1))
     done

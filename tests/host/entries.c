@@ -242,7 +242,6 @@ static void test_accepted(const struct seen *seen, const uint8_t *plan, size_t b
 
 static void test_plan(const struct seen *seen, const uint8_t *plan, size_t bytes)
 {
-    uint16_t starts[LIGHTPLAN_DEMANDS] = {0};
     struct lightplan_verdict verdict = check_with(seen, plan, bytes, PLENTY);
     if (verdict.refusal == LIGHTPLAN_ANSWERED) {
         test_accepted(seen, plan, bytes);
@@ -253,6 +252,7 @@ static void test_plan(const struct seen *seen, const uint8_t *plan, size_t bytes
     struct lightplan_verdict without_room = check_with(seen, plan, bytes, 0);
     hold_verdict(without_room, verdict.refusal, verdict.place);
     if (verdict.refusal == LIGHTPLAN_CLASH) {
+        uint16_t starts[LIGHTPLAN_DEMANDS] = {0};
         starts_of_rows(seen, plan, bytes, starts);
         hold_verdict(check_starts(seen, starts, seen->demands), LIGHTPLAN_CLASH, verdict.place);
     }
