@@ -110,7 +110,8 @@ static size_t touched(void (*call)(void))
     return sizeof stack - kept;
 }
 
-/* prints what an entry needs beyond what a call of nothing does; sees that it answered as it was meant to, and that the header names enough */
+/* prints what an entry needs beyond what a call of nothing does; sees that it answered as it was meant to, and that the header names
+   enough */
 static void measure(const char *what, void (*call)(void), unsigned meant_refusal, unsigned meant_end)
 {
     size_t bytes = touched(call) - touched(call_nothing);

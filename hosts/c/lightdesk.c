@@ -172,7 +172,8 @@ static enum status print_accepted(const struct desk *desk, const struct lightpla
     if (verdict->end == bound)
         puts("This is the best there is, proved: the plan is allowed and ends at the bound, and no plan can end below it.");
     else
-        printf("The plan is allowed. The bound does not tell whether it is the best there is: a plan may end lower, though none below %lu.\n",
+        printf("The plan is allowed. The bound does not tell whether it is the best there is: a plan may end lower, "
+               "though none below %lu.\n",
                bound);
     return YES;
 }

@@ -26,7 +26,10 @@ void *lent_out(struct lent *lent, size_t bytes)
 }
 
 /* whether some bytes are as filled */
-static int filled(const unsigned char *bytes, size_t count) { return !count || (bytes[0] == FILLED && !memcmp(bytes, bytes + 1, count - 1)); }
+static int filled(const unsigned char *bytes, size_t count)
+{
+    return !count || (bytes[0] == FILLED && !memcmp(bytes, bytes + 1, count - 1));
+}
 
 int lent_kept(const struct lent *lent, size_t written)
 {
