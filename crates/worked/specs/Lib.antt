@@ -5,4 +5,5 @@ pub mod Calls
 pub mod Table
 pub mod Worked
 pub mod ByContract
+pub mod ByContractLaws
 pub mod SearchPlanLaws
