@@ -33,9 +33,9 @@ failed() {
 # The sanitizers with which a C program runs here. AddressSanitizer wants more room than an emulator has to give.
 all_sanitizers() {
     printf 'int main(void) { return 0; }\n' >"$work/trial.c"
-    "$X86_CC" -fsanitize=address -o "$work/trial" "$work/trial.c"
     strict=undefined
-    if ([ $X86_NATIVE = yes ] || ulimit -v 33554432; x86_run "$work/trial") >/dev/null 2>&1; then
+    if ("$X86_CC" -fsanitize=address -o "$work/trial" "$work/trial.c" && { [ $X86_NATIVE = yes ] || ulimit -v 33554432; } &&
+        x86_run "$work/trial") >/dev/null 2>&1; then
         strict=undefined,address
     else
         echo "left out: AddressSanitizer, which does not run on this machine"
