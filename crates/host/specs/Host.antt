@@ -119,11 +119,12 @@ unfolding answerRefused searchTold
 answerEntry (refused why) limit startsRoom orderRoom = answerRefused why
 answerEntry (accepted v) limit startsRoom orderRoom = searchTold (search.searchReply v limit startsRoom orderRoom)
 
--- the buffers of starts and of the order afterwards: as the search leaves them, as they were where the file is refused
+-- the buffer of starts afterwards: as the search leaves it, as it was where the file is refused
 unfoldable pub startsSearched : FileReading → ℕ → List ℕ → List ℕ → List ℕ
 startsSearched (refused why) limit starts order = starts
 startsSearched (accepted v) limit starts order = search.startsAfter v limit starts order
 
+-- and the buffer of the order, alike
 unfoldable pub orderSearched : FileReading → ℕ → List ℕ → List ℕ → List ℕ
 orderSearched (refused why) limit starts order = order
 orderSearched (accepted v) limit starts order = search.orderAfter v limit starts order

@@ -66,11 +66,12 @@ readRows (suc left) v s at rows =
     let rest = readRows left v s (fieldEnd s at) (rowIn v s at ∷ rows) in
     cond (eqb at (length s)) (rowsRead rows) (nextRows (checkRow v s at rows) rest)
 
--- which of the first n listing positions have a row, and the starts that rows give them
+-- which of the first n listing positions have a row
 unfoldable pub givenTo : ℕ → List Row → List Bool
 unfolding given listing
 givenTo n rows = map (given rows) (listing n)
 
+-- and the starts that rows give them
 unfoldable pub startsTo : ℕ → List Row → List ℕ
 unfolding startIn listing
 startsTo n rows = map (startIn rows) (listing n)
@@ -98,15 +99,18 @@ pub data PlanReading : Type 0 where
   refused : Refusal → PlanReading
   accepted : List ℕ → PlanReading
 
+-- the starts, where the last checks pass
 unfoldable pub ifChecked : Checked → List ℕ → PlanReading
 ifChecked (Refused why) starts = refused why
 ifChecked Sound starts = accepted starts
 
+-- after the rows: 16, 18, 10, and the starts
 unfoldable pub withRows : View → ℕ → RowsRead → PlanReading
 unfolding checkRows startsTo ifChecked
 withRows v room (rowsRefused why) = refused why
 withRows v room (rowsRead rows) = ifChecked (checkRows v room rows) (startsTo (v .demandCount) rows)
 
+-- after the tests of the request and of the length: the rows
 unfoldable pub withFile : View → List ℕ → ℕ → Checked → PlanReading
 unfolding readRows withRows
 withFile v s room (Refused why) = refused why

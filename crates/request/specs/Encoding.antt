@@ -13,11 +13,12 @@ use Rattle.request.specs.View.{DemandView, View}
 unfoldable pub twoBytes : ℕ → List ℕ
 twoBytes n = n / 256 ∷ n % 256 ∷ []
 
--- a signed 16-bit number as the two's complement number of its bits, and back
+-- a signed 16-bit number as the two's complement number of its bits
 unfoldable pub bits16 : ℤ → ℕ
 bits16 (pos n) = n
 bits16 (negsuc n) = 65535 - n
 
+-- and back: the signed number that 16 bits are
 unfoldable pub signed16 : ℕ → ℤ
 signed16 n = cond (ltb n 32768) (pos n) (pos n -ℤ pos 65536)
 
@@ -41,12 +42,13 @@ unfoldable pub demandField : DemandView → List ℕ
 unfolding field twoBytes
 demandField d = field 3 (twoBytes (d .ident) ++ (twoBytes (d .width) ++ d .route))
 
--- the fields of all links, of all demands, one after the other
+-- the fields of all links, one after the other
 unfoldable pub linkFields : List Link → List ℕ
 unfolding linkField
 linkFields [] = []
 linkFields (l ∷ links) = linkField l ++ linkFields links
 
+-- the fields of all demands, one after the other
 unfoldable pub demandFields : List DemandView → List ℕ
 unfolding demandField
 demandFields [] = []

@@ -16,10 +16,11 @@ use Rattle.request.specs.Reading.{FileReading, refused, accepted, LinksR
 unfoldable pub padded : {A : Type 0} → ℕ → A → List A → List A
 padded size empty xs = xs ++ replicate (size - length xs) empty
 
--- the empty demand, and the empty request that stands beside a refusal
+-- the empty demand: every number 0
 unfoldable pub emptyDemand : Demand
 emptyDemand = record { ident = 0; width = 0; hops = 0; links = replicate 32 0 }
 
+-- the empty request, which stands beside a refusal: nothing in it, every number 0
 unfoldable pub emptyRequest : Request
 unfolding noLink emptyDemand
 emptyRequest =
@@ -54,12 +55,13 @@ unfolding emptyRequest pack
 packReading (refused why) = record { verdict = Refused why; request = emptyRequest }
 packReading (accepted v) = record { verdict = Sound; request = pack v }
 
--- the same of the links alone, and of the demands alone
+-- the same of the links alone
 unfoldable pub packLinks : LinksRead → LinksFound
 unfolding padded noLink
 packLinks (linksRefused why) = record { verdict = Refused why; count = 0; end = 0; links = replicate 64 noLink }
 packLinks (linksRead links at) = record { verdict = Sound; count = length links; end = at; links = padded 64 noLink links }
 
+-- and of the demands alone
 unfoldable pub packDemands : DemandsRead → DemandsFound
 unfolding padded emptyDemand packDemand
 packDemands (demandsRefused why) = record { verdict = Refused why; count = 0; demands = replicate 200 emptyDemand }

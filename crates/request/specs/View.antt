@@ -38,18 +38,20 @@ view r =
       demands = map viewDemand (take (r .«demand_count») (r .demands));
     }
 
--- what stands where there is no link, and where there is no demand
+-- what stands where there is no link
 unfoldable pub noLink : Link
 noLink = record { from = 0; to = 0 }
 
+-- what stands where there is no demand
 unfoldable pub noDemand : DemandView
 noDemand = record { ident = 0; width = 0; hops = 0; route = [] }
 
--- the link of a number, and the demand at a listing position
+-- the link of a number
 unfoldable pub linkAt : List Link → ℕ → Link
 unfolding noLink
 linkAt links k = getD links k noLink
 
+-- the demand at a listing position
 unfoldable pub demandAt : List DemandView → ℕ → DemandView
 unfolding noDemand
 demandAt demands k = getD demands k noDemand

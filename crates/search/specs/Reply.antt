@@ -108,12 +108,13 @@ unfoldable pub searchReply : View → ℕ → ℕ → ℕ → SearchReply
 unfolding checkSearch replyTo searched
 searchReply v limit startsRoom orderRoom = replyTo (checkSearch v startsRoom orderRoom) (searched v limit)
 
--- what the two buffers hold afterwards
+-- what the buffer of starts holds afterwards
 unfoldable pub startsAfter : View → ℕ → List ℕ → List ℕ → List ℕ
 unfolding checkSearch searched startsKept unlessRefused
 startsAfter v limit starts order =
     unlessRefused (checkSearch v (length starts) (length order)) starts (startsKept (v .demandCount) (searched v limit .best) starts)
 
+-- what the buffer of the order holds afterwards
 unfoldable pub orderAfter : View → ℕ → List ℕ → List ℕ → List ℕ
 unfolding checkSearch searched orderKept unlessRefused
 orderAfter v limit starts order =

@@ -53,26 +53,32 @@ pub data Said : Type 0 where
 abbrev pub lent : List ℕ
 lent = 0 ∷ 0 ∷ 0 ∷ []
 
+-- what first fit says: the end and the starts, or the refusal
 unfoldable pub sayPlaced : PlacedReply → List ℕ → Said
 sayPlaced (placed-reply.Placed end) starts = places end starts
 sayPlaced (placed-reply.Refused why) starts = refuses (numberOf why) (placeOf why)
 
+-- what the bound says
 unfoldable pub sayBound : BoundReply → Said
 sayBound (bound-reply.Bound need) = needs need
 sayBound (bound-reply.Refused why) = refuses (numberOf why) (placeOf why)
 
+-- what a search says: the outcome, the counts and both buffers, or the refusal
 unfoldable pub saySearch : SearchReply → List ℕ → List ℕ → Said
 saySearch (search-reply.Answered a) starts order = finds (a .outcome) (a .bound) (a .steps) (a .reached) (a .ruled) starts order
 saySearch (search-reply.Refused why) starts order = refuses (numberOf why) (placeOf why)
 
+-- what a check says: the end, or the refusal
 unfoldable pub sayChecked : CheckReply → Said
 sayChecked (check-reply.Accepted end) = accepts end
 sayChecked (check-reply.Refused why) = refuses (numberOf why) (placeOf why)
 
+-- what a block says of its frequency
 unfoldable pub sayFrequency : FrequencyReply → Said
 sayFrequency (frequency-reply.Centred f) = centres (f .n) (f .m) (f .mhz)
 sayFrequency (frequency-reply.Refused why) = refuses (numberOf why) (placeOf why)
 
+-- what grid numbers say of their block
 unfoldable pub sayBlock : BlockReply → Said
 sayBlock (block-reply.Found b) = names (b .start) (b .width)
 sayBlock (block-reply.Refused why) = refuses (numberOf why) (placeOf why)

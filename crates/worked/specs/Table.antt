@@ -11,10 +11,12 @@ pub record Case : Type 0 where
   pub call : Call
   pub said : Said
 
+-- a line of the table
 abbrev pub _gives_ : Call → Said → Case
 call gives said = record { call = call; said = said }
 
 infix 20 _gives_
+-- all lines, c1 to c12
 abbrev pub table : List Case
 table =
     -- c1: R in listing order
