@@ -2,6 +2,7 @@
 use Prim.Native.Nat.{ℕ, _+_, _-_, _≤_, _<_}
 use mathlib.Core.Bool.{Bool, cond}
 use mathlib.Core.List.{List, [], _∷_, _++_, map, List·Memᴰ}
+use mathlib.Core.Logic.{_⊎_, inl, inr, ⊎-elim}
 use mathlib.Core.Path.{_≡_, refl, sym, ap, subst, _∙_}
 use native.Mathlib.Omega.{arith}
 use lib.Dec.{leb}
@@ -250,3 +251,20 @@ first-fit-promise q whole order starts end e =
     let (rows, out, tops) = end-is-top (problemOf v) (fitted v order) end answer in
     let limits = checked-limits q whole (request-sound v order starts tested) in
     subst (PlanGiven v order starts (firstFitStarts v order starts)) tops (plan-given v order starts tested rows out (limits .demands-there))
+
+-- a refusal in reply is a test's, or the fitting's after all tests
+refused-by-either : (c : Checked) (reply : PlacedReply) (why : Refusal) → placedAfter c reply ≡ placed-reply.Refused why →
+    (c ≡ checked.Refused why) ⊎ ((c ≡ checked.Sound) × (reply ≡ placed-reply.Refused why))
+unfolding placedAfter
+refused-by-either checked.Sound reply why e = inr (refl, e)
+refused-by-either (checked.Refused found) reply why e = let same : found ≡ why = cc in inl (ap checked.Refused same)
+
+-- first fit that is refused was refused by a test, or with 13 at a demand for which no start is free
+pub first-fit-refusal : (v : View) (order starts : List ℕ) (why : Refusal) → firstFitReply v order starts ≡ placed-reply.Refused why →
+    (checkFirstFit v order starts ≡ checked.Refused why) ⊎ ((i : ℕ) × (why ≡ NoStart i) × NoStartFree v order i)
+unfolding firstFitReply
+first-fit-refusal v order starts why e =
+    ⊎-elim inl
+    (λ (late : (checkFirstFit v order starts ≡ checked.Sound) × (fittedReply (problemOf v) (fitted v order) ≡ placed-reply.Refused why)).
+    inr (refusal-promise v order starts (late .0) why (late .1)))
+    (refused-by-either (checkFirstFit v order starts) (fittedReply (problemOf v) (fitted v order)) why e)

@@ -1,6 +1,7 @@
 -- Is this the best there is? What a search's answer promises about a request, in the planner's words: plans are lists of starts by
 -- listing position, an order lists each position once, and nothing of the walk is left but its counts.
 use Prim.Native.Nat.{ℕ, _+_, _≤_, _<_}
+use mathlib.Core.Bool.{Bool, true, false}
 use mathlib.Core.List.{List, [], _∷_, _++_, List·Memᴰ}
 use mathlib.Core.Logic.{_≢_}
 use mathlib.Core.Path.{_≡_}
@@ -99,9 +100,17 @@ RestKept K (Unfinished e) before after = drop K after ≡ drop K before
 RestKept K UnfinishedEmpty before after = after ≡ before
 
 -- an answer, and what the two lent buffers hold afterwards: its promise holds of their first K entries, which are the plan's starts and its
--- order; no step beyond the limit was taken; the rest of the buffers stays
+-- order; the bound shown is the request's; no step beyond the limit was taken; the rest of the buffers stays
 pub record AnswerKept (v : View) (limit : ℕ) (a : Answer) (starts order starts-after order-after : List ℕ) : Type 0 where
   pub promised : Promised v limit a (take (v .demandCount) starts-after) (take (v .demandCount) order-after) (a .outcome)
+  pub bound-shown : a .bound ≡ boundOf v
   pub steps-within : a .steps ≤ limit
   pub starts-kept : RestKept (v .demandCount) (a .outcome) starts starts-after
   pub order-kept : RestKept (v .demandCount) (a .outcome) order order-after
+
+-- an outcome settles the question: finished, or nothing fits
+unfoldable pub settles : Outcome → Bool
+settles (Finished e) = true
+settles NothingFits = true
+settles (Unfinished e) = false
+settles UnfinishedEmpty = false

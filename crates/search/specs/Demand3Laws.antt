@@ -21,7 +21,7 @@ use Rattle.theory.specs.Tried.{endsAt, FirstLowest}
 use Rattle.theory.specs.Walk.{Best, none-met, met}
 use Rattle.theory.specs.Search as theory
 use Rattle.theory.specs.Promises as promises
-use Rattle.theory.specs.SearchLaws.{search-promise, search-steps}
+use Rattle.theory.specs.SearchLaws.{search-promise, search-steps, search-bound, search-same}
 use Rattle.request.specs.declared.Request.{Request}
 use Rattle.request.specs.declared.Checked.{Checked}
 use Rattle.request.specs.declared.Checked.the-variants.{Sound, Refused}
@@ -42,7 +42,7 @@ use Rattle.search.specs.declared.Answer.{Answer}
 use Rattle.search.specs.declared.SearchReply.the-variants as reply
 use Rattle.search.specs.Reply.{searched, outcomeTold, answerTold, checkSearch, replyTo, startsOf, over, startsKept, orderKept, unlessRefused, searchReply, startsAfter, orderAfter}
 use Rattle.search.specs.ReplyLaws.{passed-searchable}
-use Rattle.search.specs.Demand3.{OrderOf, endInOrder, PlanShown, NoneLower, Rank, BestThereIs, NoPlanExists, StepsUsedUp, BestSoFar, NoneSoFar, Promised, RestKept, AnswerKept}
+use Rattle.search.specs.Demand3.{OrderOf, endInOrder, PlanShown, NoneLower, Rank, BestThereIs, NoPlanExists, StepsUsedUp, BestSoFar, NoneSoFar, Promised, RestKept, AnswerKept, settles}
 
 -- an order that comes before another is listed before it
 listed-before : (K : ℕ) (earlier later : List (List ℕ)) (order other : List ℕ) → orders (listing K) ≡ earlier ++ (order ∷ later) →
@@ -289,6 +289,7 @@ module _ (v : View) (sound : SoundRequest v) (counted : length (v .demands) ≡ 
         (search-promise P (v .band .slots) (boundOf v) limit [] todo (grounds-of v sound counted)) in
         record {
           promised = told .0;
+          bound-shown = search-bound P (v .band .slots) (boundOf v) limit [] todo;
           steps-within = search-steps P (v .band .slots) (boundOf v) limit [] todo;
           starts-kept = told .1;
           order-kept = told .2;
@@ -318,3 +319,30 @@ demand3 q whole limit starts order a e =
     (unlessRefused x order (orderKept (searched v limit .best) order))) (sym passed)
     (subst (λ (b : Answer). AnswerKept v limit b starts order
     (startsKept (v .demandCount) (searched v limit .best) starts) (orderKept (searched v limit .best) order)) same kept)
+
+-- the call's outcome settles the question where the walk's does
+settles-told : (o : theory.Outcome) → settles (outcomeTold o) ≡ promises.settled o
+unfolding settles outcomeTold promises.settled
+settles-told (theory.finished e) = refl
+settles-told theory.nothing-fits = refl
+settles-told (theory.unfinished e) = refl
+settles-told theory.unfinished-empty = refl
+
+-- an answer that settles the question is the answer under every limit of at least its steps, and so are the buffers: who always says
+-- unfinished gives other answers
+pub settled-same : (v : View) (limit other : ℕ) (starts order : List ℕ) (a : Answer) →
+    searchReply v limit (length starts) (length order) ≡ reply.Answered a → settles (a .outcome) ≡ true → a .steps ≤ other →
+    (searchReply v other (length starts) (length order) ≡ reply.Answered a) ×
+    (startsAfter v other starts order ≡ startsAfter v limit starts order) × (orderAfter v other starts order ≡ orderAfter v limit starts order)
+unfolding searched searchReply startsAfter orderAfter answerTold
+settled-same v limit other starts order a e settled few =
+    let c : Checked = checkSearch v (length starts) (length order) in
+    let told : answerTold (searched v limit) ≡ a = answer-given c (searched v limit) a e .1 in
+    let same : searched v other ≡ searched v limit =
+    search-same (problemOf v) (v .band .slots) (boundOf v) limit other [] (listing (v .demandCount))
+    (sym (settles-told (searched v limit .outcome)) ∙ ap (λ (x : Answer). settles (x .outcome)) told ∙ settled)
+    (subst (λ (n : ℕ). n ≤ other) (sym (ap (λ (x : Answer). x .steps) told)) few) in (
+      ap (replyTo c) same ∙ e,
+      ap (λ (x : theory.Answer). unlessRefused c starts (startsKept (v .demandCount) (x .best) starts)) same,
+      ap (λ (x : theory.Answer). unlessRefused c order (orderKept (x .best) order)) same,
+    )

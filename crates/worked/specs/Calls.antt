@@ -28,7 +28,7 @@ use Rattle.plan.specs.declared.CheckReply.{CheckReply}
 use Rattle.plan.specs.declared.CheckReply.the-variants as check-reply
 use Rattle.plan.specs.CheckStarts.{startsReply}
 
--- a public call with its inputs; buffers are lent with room for three entries, all 0
+-- a public call with its inputs; buffers are lent with room for four entries, all 7
 pub data Call : Type 0 where
   first-fit : View → List ℕ → Call
   bound : View → Call
@@ -49,9 +49,9 @@ pub data Said : Type 0 where
   names : ℕ → ℕ → Said
   reads : View → List ℕ → Said
 
--- a lent buffer
+-- a lent buffer: what is not written stays 7
 abbrev pub lent : List ℕ
-lent = 0 ∷ 0 ∷ 0 ∷ []
+lent = 7 ∷ 7 ∷ 7 ∷ 7 ∷ []
 
 -- what first fit says: the end and the starts, or the refusal
 unfoldable pub sayPlaced : PlacedReply → List ℕ → Said

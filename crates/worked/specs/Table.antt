@@ -20,24 +20,24 @@ infix 20 _gives_
 abbrev pub table : List Case
 table =
     -- c1: R in listing order
-    (first-fit (R 384 0) (0 ∷ 1 ∷ 2 ∷ []) gives places 6 (0 ∷ 2 ∷ 3 ∷ []))
+    (first-fit (R 384 0) (0 ∷ 1 ∷ 2 ∷ []) gives places 6 (0 ∷ 2 ∷ 3 ∷ 7 ∷ []))
     ∷ (bound (R 384 0) gives needs 4)
     -- c2: R searched, limit 5
-    ∷ (search (R 384 0) 5 gives finds (Finished 4) 4 5 2 0 (0 ∷ 3 ∷ 0 ∷ []) (0 ∷ 2 ∷ 1 ∷ []))
+    ∷ (search (R 384 0) 5 gives finds (Finished 4) 4 5 2 0 (0 ∷ 3 ∷ 0 ∷ 7 ∷ []) (0 ∷ 2 ∷ 1 ∷ 7 ∷ []))
     -- c3: one step less
-    ∷ (search (R 384 0) 4 gives finds (Unfinished 6) 4 4 1 0 (0 ∷ 2 ∷ 3 ∷ []) (0 ∷ 1 ∷ 2 ∷ []))
+    ∷ (search (R 384 0) 4 gives finds (Unfinished 6) 4 4 1 0 (0 ∷ 2 ∷ 3 ∷ 7 ∷ []) (0 ∷ 1 ∷ 2 ∷ 7 ∷ []))
     -- c4: R in a band of 3 slots
-    ∷ (search (R 3 0) 1000000 gives finds NothingFits 4 0 0 6 (0 ∷ 0 ∷ 0 ∷ []) (0 ∷ 0 ∷ 0 ∷ []))
+    ∷ (search (R 3 0) 1000000 gives finds NothingFits 4 0 0 6 (7 ∷ 7 ∷ 7 ∷ 7 ∷ []) (7 ∷ 7 ∷ 7 ∷ 7 ∷ []))
     -- c5: R with guard 1
     ∷ (bound (R 384 1) gives needs 5)
-    ∷ (first-fit (R 384 1) (0 ∷ 1 ∷ 2 ∷ []) gives places 8 (0 ∷ 3 ∷ 5 ∷ []))
-    ∷ (search (R 384 1) 1000000 gives finds (Finished 5) 5 5 2 0 (0 ∷ 4 ∷ 0 ∷ []) (0 ∷ 2 ∷ 1 ∷ []))
+    ∷ (first-fit (R 384 1) (0 ∷ 1 ∷ 2 ∷ []) gives places 8 (0 ∷ 3 ∷ 5 ∷ 7 ∷ []))
+    ∷ (search (R 384 1) 1000000 gives finds (Finished 5) 5 5 2 0 (0 ∷ 4 ∷ 0 ∷ 7 ∷ []) (0 ∷ 2 ∷ 1 ∷ 7 ∷ []))
     -- c6: T, whose bound cannot be reached
     ∷ (bound (T 384) gives needs 2)
-    ∷ (search (T 384) 15 gives finds (Finished 3) 2 15 6 0 (0 ∷ 1 ∷ 2 ∷ []) (0 ∷ 1 ∷ 2 ∷ []))
-    ∷ (search (T 384) 14 gives finds (Unfinished 3) 2 14 5 0 (0 ∷ 1 ∷ 2 ∷ []) (0 ∷ 1 ∷ 2 ∷ []))
+    ∷ (search (T 384) 15 gives finds (Finished 3) 2 15 6 0 (0 ∷ 1 ∷ 2 ∷ 7 ∷ []) (0 ∷ 1 ∷ 2 ∷ 7 ∷ []))
+    ∷ (search (T 384) 14 gives finds (Unfinished 3) 2 14 5 0 (0 ∷ 1 ∷ 2 ∷ 7 ∷ []) (0 ∷ 1 ∷ 2 ∷ 7 ∷ []))
     -- c7: T in a band of 2 slots
-    ∷ (search (T 2) 1000000 gives finds NothingFits 2 15 6 0 (0 ∷ 0 ∷ 0 ∷ []) (0 ∷ 0 ∷ 0 ∷ []))
+    ∷ (search (T 2) 1000000 gives finds NothingFits 2 15 6 0 (7 ∷ 7 ∷ 7 ∷ 7 ∷ []) (7 ∷ 7 ∷ 7 ∷ 7 ∷ []))
     -- c8: R's last demand put on its second
     ∷ (check-starts (R 384 0) (0 ∷ 2 ∷ 2 ∷ []) gives refuses 18 2)
     -- c9: guard 1, width 2 at slot 0: start 2 clashes, start 3 does not
