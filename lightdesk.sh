@@ -5,6 +5,6 @@
 #   ./lightdesk.sh --help
 set -euo pipefail
 here=$(cd "$(dirname "$0")" && pwd)
-"$here/hosts/c/build.sh" >&2
+"$here/hosts/c/build.sh" >&2 || exit 2
 . "$here/tests/lib/x86.sh"
 x86_run "$here/target/lightdesk" "$@"

@@ -2,6 +2,7 @@
    difference in the counts, the starts or the order ends the run. */
 #define _POSIX_C_SOURCE 199309L
 #include "walk.h"
+#include <errno.h>
 #include <stdio.h>
 #include <stdlib.h>
 #include <string.h>
@@ -145,10 +146,23 @@ static void bench(int count, uint32_t limit)
     printf("\n");
 }
 
+/* a number in decimal digits alone, within these limits; anything else ends the program */
+static uint64_t number(const char *word, uint64_t least, uint64_t most)
+{
+    char *end;
+    errno = 0;
+    uint64_t n = strtoull(word, &end, 10);
+    if (*word < '0' || *word > '9' || *end || errno || n < least || n > most) {
+        fprintf(stderr, "usage: bench [SEED [STEPS]], two numbers, at least one step\n");
+        exit(2);
+    }
+    return n;
+}
+
 int main(int count, char **words)
 {
-    seed = count > 1 ? strtoull(words[1], NULL, 10) : 1;
-    uint32_t limit = count > 2 ? (uint32_t)strtoul(words[2], NULL, 10) : 2000000;
+    seed = count > 1 ? number(words[1], 0, UINT64_MAX) : 1;
+    uint32_t limit = count > 2 ? (uint32_t)number(words[2], 1, UINT32_MAX) : 2000000;
     printf("millions of steps in a second, %u steps at most for each request\n", limit);
     bench(12, limit);
     bench(16, limit);

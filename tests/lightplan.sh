@@ -6,6 +6,7 @@ set -euo pipefail
 cd "$(dirname "$0")/.."
 . tests/lib/x86.sh
 x86_ready
+x86_program lightplan
 
 program=target/bin/lightplan
 work=target/lightplan-test
@@ -139,7 +140,7 @@ agree "$work/triangle"
 for name in R largest many-times; do
     "$oracle" lightplan <"$work/$name" >"$work/expected"
     { head -c 20 "$work/$name"; sleep 0.1; tail -c +21 "$work/$name" | head -c 5000; sleep 0.1; tail -c +5021 "$work/$name"; } |
-        { x86_run "$program" >"$work/printed"; cat >/dev/null; } || true
+        { x86_run "$program" >"$work/printed" && cat >/dev/null; } || { echo "FAILED: the program ended with status $? on $name in pieces"; exit 1; }
     same "$name in pieces" "$work/expected" "$work/printed"
 done
 

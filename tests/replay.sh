@@ -7,6 +7,7 @@ set -euo pipefail
 cd "$(dirname "$0")/.."
 . tests/lib/x86.sh
 x86_ready
+x86_program replay
 
 program=target/bin/replay
 work=target/replay-test

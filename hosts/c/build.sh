@@ -6,5 +6,9 @@ cd "$(dirname "$0")/../.."
 . tests/lib/host.sh
 x86_ready cc
 host_library
-# shellcheck disable=SC2086
-"$X86_CC" $HOST_C -o target/lightdesk $HOST_DESK "$HOST_LIBRARY"
+desk=target/lightdesk
+if [ ! -e $desk ] || [ -n "$(find hosts/c "$HOST_LIBRARY" -newer $desk -type f -print -quit)" ]; then
+    # shellcheck disable=SC2086
+    "$X86_CC" $HOST_C -o $desk.$$ $HOST_DESK "$HOST_LIBRARY"
+    mv $desk.$$ $desk # whole at once: another run may be using it
+fi

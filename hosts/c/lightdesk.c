@@ -232,7 +232,11 @@ int main(int count, char **words)
 {
     enum status status = run(count, words);
     int lost = ferror(stdout);
-    if (fclose(stdout) || lost)
+    if (fclose(stdout))
         return trouble("standard output");
+    if (lost) {
+        errno = EIO;
+        return trouble("standard output");
+    }
     return status;
 }

@@ -343,6 +343,7 @@ static int lend_file(const char *name, struct lent *lent, const uint8_t **file, 
     if (!in)
         return 0;
     *bytes = fread(all, 1, sizeof all, in);
+    HOLD(!ferror(in));
     fclose(in);
     *file = memcpy(lent_out(lent, *bytes), all, *bytes);
     return 1;

@@ -75,7 +75,7 @@ struct lightplan_answer __wrap_lightplan_search(const uint8_t *file, size_t file
 {
     struct lightplan_answer a = __real_lightplan_search(file, file_bytes, limit, starts, starts_count, order, order_count);
     int plan = !a.refusal && a.end;
-    if (is(SEARCH_READS_ON))
+    if (file_bytes && is(SEARCH_READS_ON))
         looked_at = file[file_bytes];
     a.place += is(SEARCH_PLACE) && a.refusal;
     a.end += is(SEARCH_END) && plan;
@@ -101,7 +101,7 @@ struct lightplan_verdict __wrap_lightplan_check(const uint8_t *file, size_t file
                                                 uint16_t *starts, size_t starts_count)
 {
     struct lightplan_verdict v = __real_lightplan_check(file, file_bytes, plan, plan_bytes, starts, starts_count);
-    if (is(CHECK_READS_ON))
+    if (plan_bytes && is(CHECK_READS_ON))
         looked_at = plan[plan_bytes];
     v.place += is(CHECK_PLACE) && v.refusal;
     if (v.refusal && is(CHECK_ACCEPTS))
@@ -121,7 +121,7 @@ struct lightplan_verdict __real_lightplan_check_starts(const uint8_t *, size_t, 
 struct lightplan_verdict __wrap_lightplan_check_starts(const uint8_t *file, size_t file_bytes, const uint16_t *starts, size_t starts_count)
 {
     struct lightplan_verdict v = __real_lightplan_check_starts(file, file_bytes, starts, starts_count);
-    if (is(STARTS_READS_ON))
+    if (starts_count && is(STARTS_READS_ON))
         looked_at = (uint8_t)starts[starts_count];
     if (v.refusal == LIGHTPLAN_END_ABOVE && is(STARTS_CLASH_FIRST))
         v.refusal = LIGHTPLAN_CLASH;

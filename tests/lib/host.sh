@@ -5,12 +5,12 @@
 #   $HOST_DESK      the sources of lightdesk
 
 HOST_LIBRARY=target/staticlib/libhost.a
-HOST_C="-std=c11 -O2 -Wall -Wextra -Wpedantic -Werror"
+HOST_C="-std=c11 -O2 -Wall -Wextra -Wpedantic"
 HOST_DESK="hosts/c/lightdesk.c hosts/c/refusals.c"
 
 host_library() {
     local said
-    if [ -e $HOST_LIBRARY ] && [ -z "$(find crates crates.txt -newer $HOST_LIBRARY -name '*.rt' -print -quit)" ]; then
+    if [ -e $HOST_LIBRARY ] && [ -z "$(find crates crates.txt -newer $HOST_LIBRARY \( -name '*.rt' -o -name '*.antt' -o -name crates.txt \) -print -quit)" ]; then
         return
     fi
     if ! said=$(rt staticlib host 2>&1); then

@@ -2,6 +2,7 @@
 # compiled by a cross compiler. What is missing is installed.
 #   x86_ready           see that programs can be run (and, with `x86_ready cc`, that C can be compiled)
 #   x86_run PROGRAM ..  run an x86-64 program
+#   x86_program NAME    prove and build the program NAME of the repository, where it is not there
 #   $X86_CC             the C compiler for x86-64
 
 X86_NATIVE=no
@@ -10,8 +11,13 @@ X86_CC=gcc
 [ $X86_NATIVE = yes ] || X86_CC=x86_64-linux-gnu-gcc
 
 x86_install() {
-    command -v apt-get >/dev/null || { echo "missing: $*"; return 1; }
-    { apt-get update -qq && DEBIAN_FRONTEND=noninteractive apt-get install -y -qq "$@"; } >/dev/null 2>&1 || { echo "cannot install: $*"; return 1; }
+    local said
+    command -v apt-get >/dev/null || { echo "missing: $*" >&2; return 1; }
+    apt-get update -qq >/dev/null 2>&1 || true
+    if ! said=$(DEBIAN_FRONTEND=noninteractive apt-get install -y -qq "$@" 2>&1); then
+        printf 'cannot install: %s\n%s\n' "$*" "$said" >&2
+        return 1
+    fi
 }
 
 x86_ready() {
@@ -28,5 +34,14 @@ x86_run() {
         "$@"
     else
         qemu-x86_64 -L /usr/x86_64-linux-gnu "$@"
+    fi
+}
+
+x86_program() {
+    [ ! -x "target/bin/$1" ] || return 0
+    local said
+    if ! said=$(rt check "$1" 2>&1); then
+        echo "$said" >&2
+        return 1
     fi
 }
