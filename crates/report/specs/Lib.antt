@@ -1,4 +1,4 @@
--- What is printed: numbers in decimal, lines of words and numbers, and the page that holds them.
+-- What is printed: numbers in decimal, lines of words and numbers, the page that holds them, and that no row of a plan is left out.
 pub mod Text
 pub mod TextLaws
 pub mod Lines
@@ -9,3 +9,5 @@ pub mod RowsLaws
 pub mod Report
 pub mod ReportLaws
 pub mod ReportExample
+pub mod Printed
+pub mod PrintedLaws
