@@ -1,7 +1,8 @@
 #!/usr/bin/env bash
 # Holds docs/PROMISES.md against the sources. Each public function of each crate has one row there; the definitions that a row names are
-# cited by the function's contract and by the theorem beside them; the theorem and the two edits stand in the function's crate; and no public
-# function has a `requires`. The last line is "N passed, M failed"; each failure is a line of its own above it.
+# cited by the function's contract and by the theorem beside them; the theorem and the two edits stand in the function's crate, and an edit
+# changes code, not a definition; and no public function has a `requires`. The last line is "N passed, M failed"; each failure is a line of
+# its own above it.
 set -euo pipefail
 cd "$(dirname "$0")/.."
 
@@ -57,6 +58,9 @@ statement_of() {
         on' crates/"$1"/specs/*Laws.antt
 }
 
+# Whether the first file that an edit changes is code of its crate.
+changes_code() { grep -m1 '^file:' "$1" | grep -q '^file: src/'; }
+
 # A word that stands in the text on standard input, whole.
 has_word() { grep -qE "(^|[^[:alnum:]_′-])$1([^[:alnum:]_′-]|\$)"; }
 
@@ -75,7 +79,13 @@ check_row() {
     done
     [ "$first" != "$second" ] || fail "$crate::$name names one edit twice"
     for edit in "$first" "$second"; do
-        if [ -n "$edit" ] && [ -f "crates/$crate/must-fail/$edit.edit" ]; then pass; else fail "$crate::$name: no edit '$edit' in crates/$crate/must-fail"; fi
+        if [ -z "$edit" ] || [ ! -f "crates/$crate/must-fail/$edit.edit" ]; then
+            fail "$crate::$name: no edit '$edit' in crates/$crate/must-fail"
+        elif changes_code "crates/$crate/must-fail/$edit.edit"; then
+            pass
+        else
+            fail "$crate::$name: the edit '$edit' changes no code"
+        fi
     done
 }
 
