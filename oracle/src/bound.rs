@@ -23,7 +23,7 @@ pub fn bound(request: &Request, rules: &Rules) -> i64 {
     }
 }
 
-/// The sum of widths on the link plus G times (demands on it - 1); 0 for an unused link.
+/// What the demands on a link need side by side: their widths and a guard between each two; nothing if there are none.
 fn link_load(request: &Request, link: usize, rules: &Rules) -> i64 {
     let on_it: Vec<_> = request.demands.iter().filter(|demand| holds(&demand.route, link, rules)).collect();
     let count = on_it.len() as i64;

@@ -1,4 +1,4 @@
-//! The fields of a file: a one-byte tag, a two-byte length and that many bytes.
+//! The fields of a file: a tag in one byte, the body's length in two, the body.
 
 pub struct Field<'a> {
     pub offset: usize,

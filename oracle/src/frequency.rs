@@ -72,7 +72,7 @@ pub fn to_block(band: &Band, n: i64, m: i64, rules: &Rules) -> Result<(i64, i64)
     Ok((block_start(band, n, m, rules)?, m))
 }
 
-/// s = (n - n0 - m) / 2, taken only when m is 1 to S, n - n0 - m is even and not negative, and s + m is at most S.
+/// The start, half of n - n0 - m, where that is even and at least 0, m is a width, and the block ends within S.
 fn block_start(band: &Band, n: i64, m: i64, rules: &Rules) -> Result<i64, Refusal> {
     let n = if rules.slips(Slip::NumberIn16Bits) { n as i16 as i64 } else { n };
     let twice = n - band.n0 - m;

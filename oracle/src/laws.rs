@@ -44,7 +44,7 @@ fn law(call: &Call, rules: &Rules) -> Option<bool> {
     }
 }
 
-/// What was read, written again, is the same bytes.
+/// A file that is read and then written is the same file.
 fn one_encoding(file: &[u8], rules: &Rules) -> Option<bool> {
     let request = read_request(file, rules).ok()?;
     Some(request_bytes(&request) == file)
@@ -60,7 +60,7 @@ fn numbers(entries: &[u16]) -> Vec<i64> {
     entries.iter().map(|&entry| entry as i64).collect()
 }
 
-/// First fit in the order of an allowed plan's starts is not refused, and no demand ends higher than in the plan.
+/// First fit in the order of an allowed plan's starts finds a start for each demand, as low as the plan's or lower.
 fn first_fit_suffices(request: &Request, starts: &[i64], rules: &Rules) -> Option<bool> {
     check_starts(request, starts, rules).ok()?;
     let mut order: Vec<usize> = (0..request.demand_count).collect();

@@ -119,7 +119,7 @@ pub fn largest_end(request: &Request, starts: &[i64]) -> i64 {
     starts.iter().enumerate().map(|(position, start)| start + request.width(position)).max().unwrap_or(0)
 }
 
-/// 12: a wrong length, else the first entry that is K or more or stood before.
+/// 12: a wrong length, else the first entry that is no listing position or repeats one.
 fn test_order(order: &[usize], count: usize, rules: &Rules) -> Result<(), Refusal> {
     if rules.slips(Slip::OrderEntriesFirst) {
         test_entries(order, count, rules)?;

@@ -107,7 +107,7 @@ pub fn ends_above(request: &Request, position: usize, start: i64, rules: &Rules)
     }
 }
 
-/// 18 at the lowest listing position that clashes with an earlier one. A demand without a start is passed over.
+/// 18 at the first demand, by listing position, that clashes with one before it. A demand without a start is passed over.
 pub fn test_clashes(
     request: &Request,
     starts: &[Option<i64>],

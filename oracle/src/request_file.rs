@@ -109,7 +109,7 @@ fn field_fault(number: u8, field: &Field, reading: &Reading, rules: &Rules) -> b
     }
 }
 
-/// One 01, then one or more 02s, then any 03s.
+/// The band, then the links, at least one, then the demands, if any.
 fn may_stand(tag: u8, reading: &Reading, rules: &Rules) -> bool {
     let no_link = reading.request.links.is_empty();
     let no_demand = reading.request.demands.is_empty();

@@ -87,7 +87,7 @@ fn test_demand(request: &Request, position: usize, rules: &Rules) -> Result<(), 
     Ok(())
 }
 
-/// 8 is the fault of the later of the two demands.
+/// Where two demands have one ident, 8 is told of the later.
 fn memory_place(number: u8, request: &Request, position: usize, rules: &Rules) -> usize {
     if number == 8 && rules.slips(Slip::IdentPlaceEarlier) {
         let ident = request.demands[position].ident;
@@ -131,7 +131,7 @@ pub fn width_fault(band: &Band, width: i64, rules: &Rules) -> bool {
     width < rules.limits.width_least || width > most
 }
 
-/// An unlisted link, a link twice, or a break.
+/// A route that breaks, or has a link that is not listed or stands in it twice.
 fn route_fault(request: &Request, route: &[usize], rules: &Rules) -> bool {
     (unlisted(request, route) && !rules.slips(Slip::UnlistedAllowed))
         || (twice(route) && !rules.slips(Slip::TwiceAllowed))
@@ -147,7 +147,7 @@ fn twice(route: &[usize]) -> bool {
     (0..route.len()).any(|hop| route[..hop].contains(&route[hop]))
 }
 
-/// Each link begins at the node where the one before ends. Unlisted links are not looked at here.
+/// Whether a link leads elsewhere than to where the next begins. Unlisted links are not looked at here.
 fn broken(request: &Request, route: &[usize], rules: &Rules) -> bool {
     route.windows(2).any(|pair| match (request.links.get(pair[0]), request.links.get(pair[1])) {
         (Some(&one), Some(&next)) => !joined(one, next, rules),

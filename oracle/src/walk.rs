@@ -87,7 +87,7 @@ fn test_count(request: &Request, rules: &Rules) -> Result<(), Refusal> {
     Ok(())
 }
 
-/// 10 is tested before the walk, so also where nothing would be written.
+/// 10 is tested before the walk begins, even if that will find nothing to write.
 fn test_rooms(request: &Request, limit: u64, rooms: [usize; 2], rules: &Rules) -> Result<(), Refusal> {
     if rules.slips(Slip::RoomTestedForPlanOnly) && find(request, limit, rules).1.is_none() {
         return Ok(());
@@ -139,7 +139,7 @@ fn nothing_fits(bound: i64, count: usize, rules: &Rules) -> Found {
     Found { outcome: Outcome::NoFit, end: 0, bound, steps: 0, reached: 0, ruled }
 }
 
-/// With no demands it is finished at once: end 0, 0 steps, 1 reached.
+/// Without demands there is nothing to walk: finished at 0, no step, the empty order reached.
 fn empty(bound: i64, limit: u64, rules: &Rules) -> (Found, Option<Plan>) {
     let unfinished = rules.slips(Slip::EmptyNeedsStep) && limit == 0;
     let outcome = if unfinished { Outcome::UnfinishedEmpty } else { Outcome::Finished };
@@ -275,7 +275,7 @@ impl Walk<'_> {
         }
     }
 
-    /// A complete order is reached whatever its end is.
+    /// Every complete order counts as reached.
     fn reach(&mut self, end: i64) -> Turn {
         let better =
             end < self.mark || (self.rules.slips(Slip::EqualEndReplaces) && self.best.is_some() && end == self.mark);

@@ -11,7 +11,7 @@ use Rattle.grid.specs.Grid.{frequencyReply, blockAt, blockReply}
 abbrev lowBand : Band
 lowBand = record { n0 = negℤ (pos 284); slots = 384; guard = 0 }
 
--- c10: start 0 width 2 has n = -282, start 141 width 2 has n = 0, start 383 width 1 has n = 483
+-- c10: three blocks and their central numbers, one below zero, one at zero, one above
 pub c10 : (frequencyReply lowBand 0 2 ≡ Centred (record { n = negℤ (pos 282); m = 2; mhz = pos 191337500 })) × (frequencyReply lowBand 141 2 ≡ Centred (record { n = pos 0; m = 2; mhz = pos 193100000 })) × (frequencyReply lowBand 383 1 ≡ Centred (record { n = pos 483; m = 1; mhz = pos 196118750 }))
 unfolding frequencyReply
 c10 = (refl, refl, refl)

@@ -1,4 +1,4 @@
-// Placing: which demands meet, the bound, the lowest start, first fit.
+// Placing: who shares a link with whom, a request's bound, and first fit.
 use fit::copy_starts;
 use fit::place_all;
 use meeting::demands_asked;

@@ -35,7 +35,7 @@ unfoldable pub checkClash : Problem → List ℕ → List Row → ℕ → Checke
 unfolding startAt fits
 checkClash P starts rows k = cond (fits P rows k (startAt starts k)) Sound (Refused (Clash k))
 
--- 18 at the lowest listing position that clashes with an earlier one
+-- 18 at the first demand, by listing position, that clashes with one before it
 unfoldable pub checkClashes : Problem → List ℕ → List Row → ℕ → List DemandView → Checked
 unfolding then checkClash startAt
 checkClashes P starts rows k [] = Sound

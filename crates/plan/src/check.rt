@@ -74,7 +74,7 @@ pub(crate) fn end_above(start: u16, width: u16, slots: u16) -> bool
     (slots as u32) < start as u32 + width as u32
 }
 
-// 18 at the lowest listing position that clashes with an earlier one.
+// 18 at the first demand, by listing position, that clashes with one before it.
 pub(crate) fn check_clashes(request: Request, starts: &[u16]) -> Checked
     requires { ⌜ request .«demand_count» ≤ 200 ⌝ }
     requires { ⌜ request .«demand_count» ≤ length (now starts) ⌝ }

@@ -7,7 +7,7 @@ ghost use Rattle.refusal.specs.Refusal.{numberOf, placeOf};
 pub enum Refusal {
     // 1: a field runs past the end of the file.
     PastEnd(usize),
-    // 2: a tag that may not stand there, or a request that ends without a band or a link.
+    // 2: a tag in a place where it may not be, or a request file that ends before it has a band and a link; in memory: no link.
     WrongTag(usize),
     // 3: a field's length is not one of its tag's; in memory: a route of no or too many links.
     WrongLength(usize),
@@ -17,7 +17,7 @@ pub enum Refusal {
     BadLink(usize),
     // 6: one demand too many.
     TooManyDemands(usize),
-    // 7: a route with an unlisted link, a link twice, or a break.
+    // 7: a route that breaks, or has a link that is not listed or stands in it twice.
     BadRoute(usize),
     // 8: an ident that an earlier demand has.
     IdentUsed(usize),

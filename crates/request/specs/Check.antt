@@ -33,7 +33,7 @@ unfolding has
 once [] = true
 once (a ∷ route) = not (has a route) && once route
 
--- each link begins at the node where the one before ends
+-- where a link of the route leads to, the next one begins
 unfoldable pub unbroken : List Link → List ℕ → Bool
 unfolding linkAt
 unbroken links [] = true

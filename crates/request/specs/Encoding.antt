@@ -1,4 +1,4 @@
--- A request as a file: fields of a one-byte tag, a two-byte length and a body; numbers stand with their high byte first.
+-- A request as a file: fields of a tag in one byte, a length in two and a body; numbers stand with their high byte first.
 use Prim.Native.Nat.{ℕ, _+_, _-_, _*_, _/_, _%_}
 use mathlib.Core.Bool.{cond}
 use mathlib.Core.List.{List, [], _∷_, _++_}

@@ -20,7 +20,7 @@ pub record SoundDemand (S linkCount : ℕ) (link : ℕ → Link) (d : DemandView
   pub links-listed : (p : ℕ) → p < d .hops → getD (d .route) p 0 < linkCount
   -- no link stands twice
   pub links-once : (p q : ℕ) → p < q → q < d .hops → getD (d .route) p 0 ≢ getD (d .route) q 0
-  -- each link begins at the node where the one before ends
+  -- where a link of the route leads to, the next one begins
   pub no-break : (p : ℕ) → p + 1 < d .hops → link (getD (d .route) p 0) .to ≡ link (getD (d .route) (p + 1) 0) .from
 
 -- a sound request

@@ -14,7 +14,7 @@ ghost use Rattle.request.specs.Check.{has, allowedHops, soundRoute, chec
 ghost use Rattle.request.specs.Steps.{checkAllLinks, checkGround};
 
 // Whether a request is sound, or the first fault in the order of its checks: the band, the links one by one, the demands one
-// by one. A place is a listing position, 0 for the band or no link. What stands behind a count is not read.
+// by one. A place is a listing position; for the band, or where there is no link, it is 0. What stands behind a count is not read.
 pub fn check_request(request: Request) -> Checked
     ensures { λ r. ⌜ r ≡ check (view request) ⌝ }
 {

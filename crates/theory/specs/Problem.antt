@@ -79,7 +79,7 @@ module _ (P : Problem) (S : ℕ) where
       let further : Fitted = firstFit (place P rows i) order in
       cond (leb (endOf P i (lowest P rows i)) S) further (refused i)
 
--- a plan is a start for each demand of a list, beside rows that stand already; it is allowed when each end is at most S, and
+-- a plan is a start for each demand of a list, beside rows that stand already; it is allowed when all demands end within S, and
 -- no demand clashes with a row or with another demand of the list
 pub record Allowed (P : Problem) (S : ℕ) (rows : List Row) (todo : List ℕ) (plan : ℕ → ℕ) : Type 0 where
   pub within : (i : ℕ) → List·Memᴰ i todo → endOf P i (plan i) ≤ S

@@ -524,7 +524,7 @@ searchWalk-same P S bound limit other rows (i ∷ todo) h few =
     (settled-not-out (u .course) (u .best) (u .mark) h)
     few)
 
--- an answer that settles the question is the answer under every limit of at least its steps
+-- an answer that settles the question stays the same with any limit that is no lower than its steps
 pub search-same : (P : Problem) (S bound limit other : ℕ) (rows : List Row) (todo : List ℕ) →
     settled (search P S bound limit rows todo .outcome) ≡ true → search P S bound limit rows todo .steps ≤ other →
     search P S bound other rows todo ≡ search P S bound limit rows todo
