@@ -34,7 +34,7 @@ extern "C" {
 /* The most demands that are searched, so that buffers of as many entries are never too short for lightplan_search. */
 #define LIGHTPLAN_SEARCHED 20
 
-/* A stack of so many bytes is enough for any of the calls, on x86-64. Measured with the heaviest inputs: lightplan_read 62664,
+/* A stack of so many bytes is enough for any of the calls, on x86-64. Measured with the heaviest inputs: lightplan_read 59208,
    lightplan_check 61368, lightplan_search 60440, lightplan_check_starts 49416, lightplan_frequency 40. */
 #define LIGHTPLAN_STACK 98304
 
