@@ -24,19 +24,27 @@ public_functions() {
         crate=${file#crates/}
         crate=${crate%%/*}
         awk -v crate="$crate" -v file="$file" '
-            /^impl / { type = $2 "::" }
+            /^ *impl[ <]/ { type = $0; sub(/^ *impl(<[^>]*>)? */, "", type); sub(/[^A-Za-z0-9_].*/, "", type); type = type "::" }
             /^}/ { type = "" }
-            /^[ ]*pub (extern "C" )?fn / {
+            /(^|[ \]])pub ([a-z]+ |"C" )*fn / {
                 name = $0
-                sub(/^[ ]*pub (extern "C" )?fn /, "", name)
+                sub(/.*pub ([a-z]+ |"C" )*fn /, "", name)
                 sub(/[^A-Za-z0-9_].*/, "", name)
                 print crate "|" type name "|" file "|" NR
             }' "$file"
     done
 }
 
-# The lines of a contract: from the function's line to the one that opens its body.
-contract_of() { awk -v from="$2" 'NR > from && /^[ ]*{$/ { exit } NR >= from' "$1"; }
+# The lines of a contract: from the function's line to the one that opens its body, which ends in a brace and is no clause.
+contract_of() {
+    awk -v from="$2" '
+        NR < from { next }
+        /[{]$/ && !/^ *(ensures|requires|ghost) / { sub(/ *[{]$/, ""); print; exit }
+        { print }' "$1"
+}
+
+# The clauses of a contract that are equations, each on one line.
+equations_in() { awk '/^ *ensures / { if (clause) print clause; clause = "" } /^ *ensures / || clause { clause = clause " " $0 } END { if (clause) print clause }' "$1" | grep '≡' || true; }
 
 # Each row of the table as "crate::name|definitions|theorem|edit|edit", the words of a cell parted by spaces.
 rows_of_the_table() {
@@ -71,7 +79,22 @@ check_row() {
     statement_of "$crate" "$theorem" >"$work/statement"
     if grep -q '^[ ]*requires' "$work/contract"; then fail "$crate::$name has a requires"; else pass; fi
     if [ -s "$work/statement" ]; then pass; else fail "$crate::$name: no theorem $theorem in crates/$crate/specs"; fi
+    case $theorem in same-*) pass ;; *) fail "$crate::$name: $theorem is not named as a theorem of two results" ;; esac
     [ -n "$definitions" ] || fail "$crate::$name names no definition"
+    equations_in "$work/contract" >"$work/equations"
+    if [ -s "$work/equations" ]; then pass; else fail "$crate::$name has no equation in its contract"; fi
+    if [ "$(grep -o '&mut ' "$work/contract" | wc -l)" = "$(grep -c '\.exit) ≡' "$work/equations" || true)" ]; then
+        pass
+    else
+        fail "$crate::$name does not say what each lent slice holds afterwards"
+    fi
+    while read -r equation; do
+        cited=no
+        for definition in $definitions; do
+            ! has_word "$definition" <<<"$equation" || cited=yes
+        done
+        if [ $cited = yes ]; then pass; else fail "$crate::$name: no definition in its row for: $equation"; fi
+    done <"$work/equations"
     for definition in $definitions; do
         if grep -qE "^ *(unfoldable |abbrev )?pub $definition :" crates/*/specs/*.antt; then pass; else fail "$crate::$name: no definition $definition"; fi
         if has_word "$definition" <"$work/contract"; then pass; else fail "the contract of $crate::$name does not cite $definition"; fi
