@@ -33,16 +33,30 @@ failed() {
 
 # ---- what is built
 
-# The sanitizers with which a C program runs here. AddressSanitizer wants more room than an emulator has to give.
-all_sanitizers() {
-    printf 'int main(void) { return 0; }\n' >"$work/trial.c"
-    strict=undefined
-    if ("$X86_CC" -fsanitize=address -o "$work/trial" "$work/trial.c" && { [ $X86_NATIVE = yes ] || ulimit -v 33554432; } &&
-        x86_run "$work/trial") >/dev/null 2>&1; then
-        strict=undefined,address
+# strict_run PROGRAM ..: run a program that has sanitizers. An address space laid out by chance can stop AddressSanitizer at its start.
+strict_run() {
+    if [ $X86_NATIVE = yes ] && setarch "$(uname -m)" -R true 2>/dev/null; then
+        setarch "$(uname -m)" -R "$@"
     else
-        echo "left out: AddressSanitizer, which does not run on this machine"
+        x86_run "$@"
     fi
+}
+
+# trial: whether a program with AddressSanitizer can be linked and run here. It wants more room than an emulator has to give.
+trial() {
+    printf 'int main(void) { return 0; }\n' >"$work/trial.c"
+    ("$X86_CC" -fsanitize=address -o "$work/trial" "$work/trial.c" && { [ $X86_NATIVE = yes ] || ulimit -v 33554432; } &&
+        strict_run "$work/trial") >/dev/null 2>&1
+}
+
+# The sanitizers with which a C program runs here; the search for leaks may be all that a machine forbids.
+all_sanitizers() {
+    strict=undefined,address
+    trial && return
+    export ASAN_OPTIONS=$ASAN_OPTIONS:detect_leaks=0
+    trial && return
+    strict=undefined
+    echo "left out: AddressSanitizer, which does not run on this machine"
 }
 
 # compile SANITIZERS NAME SOURCE..: a program linked with the library
@@ -99,7 +113,7 @@ header
 # says STATUS LINE ARGUMENT..: lightdesk ends with this status, and the last line printed is this one
 says() {
     local status=0
-    x86_run "$work/lightdesk-strict" "${@:3}" >"$work/printed" 2>"$work/said" || status=$?
+    strict_run "$work/lightdesk-strict" "${@:3}" >"$work/printed" 2>"$work/said" || status=$?
     [ $status = "$1" ] || failed "status $status, not $1: lightdesk ${*:3}"
     [ "$(tail -n 1 "$work/printed")" = "$2" ] || failed "other words: lightdesk ${*:3}: $(tail -n 1 "$work/printed")"
     passed=$((passed + 1))
@@ -169,7 +183,7 @@ streams() {
     for words in --help 'search examples/R.request' 'check examples/nsfnet91.request examples/nsfnet91.plan' 'search /dev/null'; do
         # shellcheck disable=SC2086
         status=0
-        x86_run "$work/lightdesk-strict" $words >/dev/full 2>"$work/said" || status=$?
+        strict_run "$work/lightdesk-strict" $words >/dev/full 2>"$work/said" || status=$?
         [ $status = 2 ] || failed "status $status where the disk is full: lightdesk $words"
         grep -q '^lightdesk: standard output: ' "$work/said" || failed "no word about a full disk: lightdesk $words"
         passed=$((passed + 1))
@@ -243,7 +257,7 @@ echo "as the second program's checks: $passed so far"
 
 # ---- every entry, with lent memory
 
-x86_run "$work/entries" examples/*.request "$work"/*/*/*.request | tee "$work/counted" || failed "the entries"
+strict_run "$work/entries" examples/*.request "$work"/*/*/*.request | tee "$work/counted" || failed "the entries"
 files=$(sed -n 's/^\([0-9]*\) files, .*/\1/p' "$work/counted")
 passed=$((passed + files))
 

@@ -41,11 +41,7 @@ pub fn answer(call: &Call, rules: &Rules) -> String {
             wrote(write_request(request, &mut out, rules), &out)
         }
         Call::Bound { request } => said(tested_bound(request, rules).map(|bound| format!("bound {bound}")), &[]),
-        Call::FirstFit { room, order, request } => {
-            let mut out = vec![ENTRY; *room];
-            let end = first_fit(request, order, &mut out, rules);
-            said(end.map(|end| format!("placed {end}")), &[entries(&out)])
-        }
+        Call::FirstFit { room, order, request } => placed(request, order, *room, rules),
         Call::Search { limit, starts_room, order_room, request } => {
             searched(request, *limit, *starts_room, *order_room, rules)
         }
@@ -69,6 +65,13 @@ pub fn answer(call: &Call, rules: &Rules) -> String {
             said(to_block(band, *n, *m, rules).map(|(start, width)| format!("block {start} {width}")), &[])
         }
     }
+}
+
+/// What first fit answers with a buffer of this many entries.
+fn placed(request: &Request, order: &[usize], room: usize, rules: &Rules) -> String {
+    let mut out = vec![ENTRY; room];
+    let end = first_fit(request, order, &mut out, rules);
+    said(end.map(|end| format!("placed {end}")), &[entries(&out)])
 }
 
 /// The words of an answer or of a refusal, then the lent buffers.
