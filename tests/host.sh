@@ -6,23 +6,20 @@
 # The last line counts the runs: "N passed, 0 failed". The first difference ends it with a non-zero status.
 set -euo pipefail
 cd "$(dirname "$0")/.."
-. tests/lib/x86.sh
 . tests/lib/host.sh
-x86_ready cc
+. tests/lib/oracle.sh
 host_library
 x86_program lightplan
+oracle_ready
 
 program=target/bin/lightplan
 work=target/host-test
-seed=${SEED:-$(od -An -N4 -tu4 /dev/urandom | tr -d ' ')}
 faults=$(awk '/^enum fault/ { on = 1 } on && /FAULTS/ { exit } on && /,/ { n += gsub(/,/, ",") } END { print n }' tests/host/wrong.c)
 passed=0
 ulimit -c 0
 # A sanitizer's report has a status of its own, so that it is never taken for an answer's.
 export ASAN_OPTIONS=exitcode=99 UBSAN_OPTIONS=exitcode=99:print_stacktrace=1
 
-(cd oracle && CARGO_TARGET_DIR=target cargo build --release --offline --quiet)
-oracle=oracle/target/release/oracle
 rm -rf "$work"
 mkdir -p "$work"/{searched,checked}/{stored,random}
 

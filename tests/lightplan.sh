@@ -5,16 +5,15 @@
 set -euo pipefail
 cd "$(dirname "$0")/.."
 . tests/lib/x86.sh
+. tests/lib/oracle.sh
 x86_ready
 x86_program lightplan
+oracle_ready
 
 program=target/bin/lightplan
 work=target/lightplan-test
-seed=${SEED:-$(od -An -N4 -tu4 /dev/urandom | tr -d ' ')}
 passed=0
 
-(cd oracle && CARGO_TARGET_DIR=target cargo build --release --offline --quiet)
-oracle=oracle/target/release/oracle
 rm -rf "$work"
 mkdir -p "$work/stored" "$work/random"
 

@@ -3,12 +3,13 @@
 # its search against brute force over all plans and its answers against the laws. SEED=... repeats a run.
 # The last line counts all of it: "N passed, 0 failed". Any failure ends it at once with a non-zero status.
 set -euo pipefail
-cd "$(dirname "$0")/../oracle"
+cd "$(dirname "$0")/.."
+. tests/lib/oracle.sh
+cd oracle
 export CARGO_TARGET_DIR=target
 
 program=target/release/oracle
 cases=target/cases
-seed=${SEED:-$(od -An -N4 -tu4 /dev/urandom | tr -d ' ')}
 passed=0
 
 # Runs one check and counts it.

@@ -6,19 +6,18 @@
 set -euo pipefail
 cd "$(dirname "$0")/.."
 . tests/lib/x86.sh
+. tests/lib/oracle.sh
 x86_ready
 x86_program replay
+oracle_ready
 
 program=target/bin/replay
 work=target/replay-test
-seed=${SEED:-$(od -An -N4 -tu4 /dev/urandom | tr -d ' ')}
 cases=${CASES:-40000}
 small=4000
 streams=400
 passed=0
 
-(cd oracle && CARGO_TARGET_DIR=target cargo build --release --offline --quiet)
-oracle=oracle/target/release/oracle
 rm -rf "$work"
 mkdir -p "$work/streams"
 

@@ -2,9 +2,7 @@
 # Builds target/lightdesk from nothing: proves the library and makes its archive where that is still to be done, then compiles the C.
 set -euo pipefail
 cd "$(dirname "$0")/../.."
-. tests/lib/x86.sh
 . tests/lib/host.sh
-x86_ready cc
 host_library
 desk=target/lightdesk
 if [ ! -e $desk ] || [ -n "$(find hosts/c "$HOST_LIBRARY" -newer $desk -type f -print -quit)" ]; then
