@@ -1,10 +1,34 @@
 #!/usr/bin/env bash
-# Runs the C host: builds it where that is still to be done, then passes its arguments on.
+# Searches a request file for its best plan, or checks a plan file against it, and says in words whether it is the best there is: builds
+# lightdesk, a program in C over the proved library, where that is still to be done, then runs it.
 #   ./lightdesk.sh search REQUEST [LIMIT]
 #   ./lightdesk.sh check REQUEST PLAN
 #   ./lightdesk.sh --help
+# LIMIT is the most steps that the search may take, 0 to 4294967295; without it 1000000. A file called - is standard input.
+# Exit status: 0 there is a plan, or the plan is accepted, be it the best or not; 1 there is none: nothing fits, the steps ran out before a
+# plan was met, or a file was refused; 2 wrong usage, a file that cannot be read, output that is lost, or a library that cannot be proved.
 set -euo pipefail
-here=$(cd "$(dirname "$0")" && pwd)
-"$here/hosts/c/build.sh" >&2 || exit 2
+here=$(cd "$(dirname "$(readlink -f "$0")")" && pwd)
+. "$here/tests/lib/start.sh"
 . "$here/tests/lib/x86.sh"
+
+case "$#:${1-}" in
+1:--help) start_help ;;
+2:search) files=("$2") ;;
+3:search)
+    [[ $3 =~ ^[0-9]+$ ]] || start_misused
+    files=("$2")
+    ;;
+3:check)
+    [ "$2 $3" != '- -' ] || start_misused
+    files=("$2" "$3")
+    ;;
+*) start_misused ;;
+esac
+start_output
+for file in "${files[@]}"; do
+    start_input "$file"
+done
+
+"$here/hosts/c/build.sh" >&2 || exit 2
 x86_run "$here/target/lightdesk" "$@"

@@ -18,6 +18,7 @@ struct walker {
 static const struct walker walkers[] = {
     {"plain", walk_plain},
     {"kept", walk_kept},
+    {"packed", walk_packed},
     {"proved", walk_proved},
 };
 

@@ -25,6 +25,7 @@ struct answer {
 
 void walk_plain(const struct task *task, struct answer *answer);
 void walk_kept(const struct task *task, struct answer *answer);
+void walk_packed(const struct task *task, struct answer *answer);
 void walk_proved(const struct task *task, struct answer *answer);
 
 #endif

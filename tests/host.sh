@@ -9,7 +9,7 @@ cd "$(dirname "$0")/.."
 . tests/lib/host.sh
 . tests/lib/oracle.sh
 host_library
-x86_program lightplan
+build_program lightplan
 oracle_ready
 
 program=target/bin/lightplan

@@ -1,13 +1,16 @@
 #!/usr/bin/env bash
 # Runs the program on request files: some made here with the lines they must give, the examples, and the second program's stored
-# and random ones. Every byte printed is compared. SEED=... repeats a run.
+# and random ones. Every byte printed is compared. Input that cannot be read and output that is lost are told, and lightplan.sh ends with
+# the status that belongs to the answer. SEED=... repeats a run.
 # The last line counts the runs: "N passed, 0 failed". The first difference ends it with a non-zero status.
 set -euo pipefail
 cd "$(dirname "$0")/.."
 . tests/lib/x86.sh
+. tests/lib/build.sh
 . tests/lib/oracle.sh
+. tests/lib/streams.sh
 x86_ready
-x86_program lightplan
+build_program lightplan
 oracle_ready
 
 program=target/bin/lightplan
@@ -17,13 +20,14 @@ passed=0
 rm -rf "$work"
 mkdir -p "$work/stored" "$work/random"
 
+fail() {
+    echo "FAILED: $*, seed $seed"
+    exit 1
+}
+
 # Compares what was printed with what was expected.
 same() {
-    if ! cmp "$2" "$3"; then
-        echo "FAILED: $1, seed $seed; printed:"
-        cat "$3"
-        exit 1
-    fi
+    cmp "$2" "$3" || fail "$1; printed: $(cat "$3")"
     passed=$((passed + 1))
 }
 
@@ -97,10 +101,10 @@ largest() {
     done
 }
 
-# Round a triangle of three links, 20 demands of which each shares a link with each other: no end meets the bound.
+# Round a triangle of three links, 20 demands of which each shares a link with each other: no end meets the bound. triangle SLOTS
 triangle() {
     local k
-    band 384 0
+    band "$1" 0
     link 0 1
     link 1 2
     link 2 0
@@ -131,15 +135,18 @@ cat "$work"/largest{,}{,}{,}{,} >"$work/many-times"
 expect many-times 'refused 20 8128'
 alike 20 >"$work/twenty"
 agree "$work/twenty"
-triangle >"$work/triangle"
+triangle 384 >"$work/triangle"
 agree "$work/triangle"
-[ "$(head -c 10 "$work/printed")" = unfinished ] || { echo "FAILED: triangle was not left unfinished"; exit 1; }
+[[ "$(head -n 1 "$work/printed")" == 'unfinished end 20 '* ]] || fail "triangle was not left unfinished"
+triangle 19 >"$work/tight"
+agree "$work/tight"
+[[ "$(cat "$work/printed")" =~ ^'unfinished end 0 bound 14 steps 1000000 '[^$'\n']*$ ]] || fail "tight was not left without a plan"
 
 # Input that comes in pieces is read to its end.
 for name in R largest many-times; do
     "$oracle" lightplan <"$work/$name" >"$work/expected"
     { head -c 20 "$work/$name"; sleep 0.1; tail -c +21 "$work/$name" | head -c 5000; sleep 0.1; tail -c +5021 "$work/$name"; } |
-        { x86_run "$program" >"$work/printed" && cat >/dev/null; } || { echo "FAILED: the program ended with status $? on $name in pieces"; exit 1; }
+        { x86_run "$program" >"$work/printed" && cat >/dev/null; } || fail "the program ended with status $? on $name in pieces"
     same "$name in pieces" "$work/expected" "$work/printed"
 done
 
@@ -147,7 +154,84 @@ for file in examples/*.request; do
     agree "$file"
 done
 
-# The second program writes its requests, each beside the lines expected.
+# ---- what cannot be read or written
+
+# R's last circuit is a field of 8 bytes; without it the other two are a request as well.
+streams_ready "$program" "$work"
+streams_input "$work/R" 8
+
+# lost NAME STATUS COMMAND ..: the command ends with this status and says one line about standard output on standard error
+lost() {
+    local name=$1 status=0
+    "${@:3}" 2>"$work/said" || status=$?
+    [ $status = "$2" ] || fail "$name: status $status"
+    [ "$(wc -l <"$work/said")" = 1 ] || fail "$name: not one line on standard error: $(cat "$work/said")"
+    grep -q '^lightplan: standard output: ' "$work/said" || fail "$name: other words: $(cat "$work/said")"
+    passed=$((passed + 1))
+}
+
+full() { "$@" >/dev/full; }
+closed() { "$@" >&-; }
+unread() { { sleep 0.2; "$@"; } | true; }
+lost "a full device" 0 full x86_run "$program" <"$work/R"
+lost "a closed output" 0 closed x86_run "$program" <"$work/R"
+lost "a full device, by the script" 2 full ./lightplan.sh "$work/R"
+lost "a closed output, by the script" 2 closed ./lightplan.sh "$work/R"
+lost "a pipe that nobody reads, by the script" 2 unread ./lightplan.sh "$work/R"
+lost "help to a full device" 2 full ./lightplan.sh --help
+
+# ---- the script
+
+# script STATUS NAME ARGUMENT ..: the script ends with this status and prints what the program prints for the file NAME; nothing is built
+script() {
+    local status=0
+    x86_run "$program" <"$work/$2" >"$work/expected"
+    ./lightplan.sh "${@:3}" >"$work/printed" 2>"$work/said" || status=$?
+    [ $status = "$1" ] || fail "status $status: lightplan.sh ${*:3}"
+    [ ! -s "$work/said" ] || fail "lightplan.sh ${*:3} says: $(cat "$work/said")"
+    same "lightplan.sh ${*:3}" "$work/expected" "$work/printed"
+}
+
+for name in R none one twenty triangle; do
+    script 0 "$name" "$work/$name"
+done
+for name in narrow tight empty twenty-one one-byte-more; do
+    script 1 "$name" "$work/$name"
+done
+script 0 R - <"$work/R"
+script 1 narrow /dev/stdin <"$work/narrow"
+script 0 R "$work/R" <&-
+
+# says STATUS WORDS ARGUMENT ..: the script ends with this status, and says these words on standard error and nothing else
+says() {
+    local status=0
+    ./lightplan.sh "${@:3}" >"$work/printed" 2>"$work/said" || status=$?
+    [ $status = "$1" ] || fail "status $status: lightplan.sh ${*:3}"
+    [ "$(cat "$work/said")" = "$2" ] || fail "lightplan.sh ${*:3} says: $(cat "$work/said")"
+    [ ! -s "$work/printed" ] || fail "lightplan.sh ${*:3} prints: $(head -n 1 "$work/printed")"
+    passed=$((passed + 1))
+}
+
+usage=$'usage: ./lightplan.sh REQUEST\nusage: ./lightplan.sh --help'
+says 2 "$usage"
+says 2 "$usage" "$work/R" "$work/R"
+says 2 "$usage" --helper
+says 2 "lightplan: $work/missing: there is no such file" "$work/missing"
+says 2 "lightplan: $work: that is a directory, not a file" "$work"
+says 2 "lightplan: standard input: it is closed" - <&-
+says 2 "lightplan: standard input: Is a directory" - <"$work"
+./lightplan.sh --help >"$work/printed" || fail "no help"
+grep -q '^Exit status: 0 ' "$work/printed" || fail "other help"
+passed=$((passed + 1))
+
+# By a link, from another folder.
+ln -s "$PWD/lightplan.sh" "$work/plan"
+x86_run "$program" <"$work/R" >"$work/expected"
+(cd "$work" && ./plan R) >"$work/printed" || fail "the script by a link: status $?"
+same "the script by a link" "$work/expected" "$work/printed"
+
+# ---- the second program's requests, each beside the lines expected
+
 echo "seed $seed"
 "$oracle" make stored | "$oracle" requests "$work/stored" >/dev/null
 "$oracle" make random "$seed" 2000 | "$oracle" requests "$work/random" >/dev/null

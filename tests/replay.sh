@@ -1,14 +1,17 @@
 #!/usr/bin/env bash
 # Makes every call of the library through the program `replay` and compares each line with the second program's: the stored cases,
 # the longest frames, cases by chance, searches on small bands, and streams that are malformed. The ends of the searches on small
-# bands are also held against brute force over all plans. SEED=... repeats a run, CASES=... sets how many cases come by chance.
+# bands are also held against brute force over all plans. Input that cannot be read is told, and not answered. SEED=... repeats a run,
+# CASES=... sets how many cases come by chance.
 # The last line counts the lines and streams: "N passed, 0 failed". The first difference ends it with a non-zero status.
 set -euo pipefail
 cd "$(dirname "$0")/.."
 . tests/lib/x86.sh
+. tests/lib/build.sh
 . tests/lib/oracle.sh
+. tests/lib/streams.sh
 x86_ready
-x86_program replay
+build_program replay
 oracle_ready
 
 program=target/bin/replay
@@ -65,6 +68,11 @@ passed=$((passed + 2))
     x86_run "$program" >"$work/pieces" || fail "the stored cases in pieces"
 cmp "$work/pieces" crates/replay/stdout || fail "the stored cases in pieces"
 passed=$((passed + 1))
+
+# One frame, of 5 bytes and the file of R; without its last 8 bytes it is cut short.
+{ printf '\1\0\0\0\53'; cat examples/R.request; } >"$work/frame"
+streams_ready "$program" "$work"
+streams_input "$work/frame" 8
 
 echo "seed $seed"
 agree longest longest

@@ -1,8 +1,7 @@
-# Sourced by the tests. The compiler makes x86-64 programs; on another processor they are run under an emulator, and C for them is
-# compiled by a cross compiler. What is missing is installed.
+# Sourced by all that runs what is built here. The compiler makes x86-64 programs; on another processor they are run under an emulator, and
+# C for them is compiled by a cross compiler. What is missing is installed.
 #   x86_ready           see that programs can be run (and, with `x86_ready cc`, that C can be compiled)
 #   x86_run PROGRAM ..  run an x86-64 program
-#   x86_program NAME    prove and build the program NAME of the repository, where it is not there
 #   $X86_CC             the C compiler for x86-64
 
 X86_NATIVE=no
@@ -34,14 +33,5 @@ x86_run() {
         "$@"
     else
         qemu-x86_64 -L /usr/x86_64-linux-gnu "$@"
-    fi
-}
-
-x86_program() {
-    [ ! -x "target/bin/$1" ] || return 0
-    local said
-    if ! said=$(rt check "$1" 2>&1); then
-        echo "$said" >&2
-        return 1
     fi
 }

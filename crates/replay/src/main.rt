@@ -2,7 +2,7 @@
 // test every call, lent buffers included. A frame is the call's number (1 byte), the length of its body (4 bytes) and the body. All
 // numbers stand with their high byte first.
 use buffers::held_bytes;
-use libc::STDIN_FILENO;
+use input::Body;
 use numbers::byte_at;
 use numbers::four_at;
 ghost use mathlib.Core.Path.{_≡_};
@@ -35,30 +35,62 @@ fn answer_all(room: &mut [u8]) {
     }
 }
 
-// Answers the next frame, and says whether to go on: not where the input ends, and not behind a malformed frame.
+// What became of a frame.
+enum Turn {
+    Answered,
+    Malformed,
+    Failed,
+}
+
+// Answers the next frame, and says whether to go on: not where the input ends or cannot be read, and not behind a malformed frame.
 fn answer_next(room: &mut [u8]) -> bool {
     let mut head = [0u8; 5];
-    let got = io::read_full(STDIN_FILENO, &mut head);
-    if got == 0 {
+    let got = input::read_input(&mut head);
+    if got.failed {
+        return told(Turn::Failed);
+    }
+    let count = got.count;
+    if count == 0 {
         return false;
     }
-    let answered = answer_frame(&head[..got], room);
-    if !answered {
-        say::words(b"malformed\n");
+    told(answer_frame(&head[..count], room))
+}
+
+// Says why there is no answer, where there is none, and whether there is one.
+fn told(turn: Turn) -> bool {
+    match turn {
+        Turn::Answered => true,
+        Turn::Malformed => {
+            say::words(b"malformed\n");
+            false
+        }
+        Turn::Failed => {
+            os::fail(b"replay: standard input");
+            false
+        }
     }
-    answered
 }
 
 // Reads the body behind a head and answers the frame, if both are whole. A body that the room does not hold is longer than any that a
 // call takes, but for the file of a request, and the front of such a file is refused as the whole is.
-fn answer_frame(head: &[u8], room: &mut [u8]) -> bool {
+fn answer_frame(head: &[u8], room: &mut [u8]) -> Turn {
     if head.len() < 5 {
-        return false;
+        return Turn::Malformed;
     }
     let length = four_at(head, 1) as usize;
-    if !input::read_body(length, room) {
-        return false;
+    match input::read_body(length, room) {
+        Body::Whole => answer_body(byte_at(head, 0), length, room),
+        Body::Cut => Turn::Malformed,
+        Body::Failed => Turn::Failed,
     }
+}
+
+// Makes the call of this number with the body of this length, of which the room keeps the front.
+fn answer_body(call: u8, length: usize, room: &[u8]) -> Turn {
     let kept = held_bytes(length, room);
-    calls::make_call(byte_at(head, 0), &room[..kept])
+    if calls::make_call(call, &room[..kept]) {
+        Turn::Answered
+    } else {
+        Turn::Malformed
+    }
 }

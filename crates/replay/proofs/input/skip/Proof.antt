@@ -18,6 +18,9 @@ skip-some-requires c κs = search needs
 returns : tie.Need-returns Inv-loop μ-loop
 returns c = search needs
 
+returns-2 : tie.Need-returns-2 Inv-loop μ-loop
+returns-2 c = search needs
+
 sub-left : tie.Need-sub-left Inv-loop μ-loop
 sub-left c = search needs
 
@@ -27,8 +30,8 @@ loop-less c = search needs
 loop-again : tie.Need-loop-again Inv-loop μ-loop
 loop-again c = search needs
 
-returns-2 : tie.Need-returns-2 Inv-loop μ-loop
-returns-2 c = search needs
+returns-3 : tie.Need-returns-3 Inv-loop μ-loop
+returns-3 c = search needs
 
 pub skip-spec : {M : Type 1} → statement M
 skip-spec =
@@ -39,7 +42,8 @@ skip-spec =
     loop-holds
     skip-some-requires
     returns
+    returns-2
     sub-left
     loop-less
     loop-again
-    returns-2)
+    returns-3)
