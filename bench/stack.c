@@ -14,7 +14,7 @@ static ucontext_t here, there;
 
 static uint8_t file[LIGHTPLAN_REQUEST_BYTES + 1], plan[LIGHTPLAN_PLAN_BYTES + 1];
 static size_t file_bytes, plan_bytes;
-static uint16_t first[LIGHTPLAN_DEMANDS], second[LIGHTPLAN_DEMANDS];
+static uint16_t first[LIGHTPLAN_DEMANDS], second[LIGHTPLAN_DEMANDS], routes[LIGHTPLAN_ROUTES];
 
 /* what was answered last, for a look at whether the calls did what they were made for */
 static unsigned refusal, end;
@@ -68,6 +68,14 @@ static void call_read(void)
     refusal = r.refusal;
 }
 
+static void call_read_routes(void)
+{
+    struct lightplan_routes r =
+        lightplan_read_routes(file, file_bytes, first, LIGHTPLAN_ENDS, second, LIGHTPLAN_DEMANDS, routes, LIGHTPLAN_ROUTES);
+    refusal = r.refusal;
+    end = (unsigned)r.hops;
+}
+
 static void call_search(void)
 {
     struct lightplan_answer a = lightplan_search(file, file_bytes, 100000, first, LIGHTPLAN_DEMANDS, second, LIGHTPLAN_DEMANDS);
@@ -88,6 +96,8 @@ static void call_check_starts(void)
     refusal = v.refusal;
     end = v.end;
 }
+
+static void call_version(void) { refusal = lightplan_version() != LIGHTPLAN_VERSION; }
 
 static void call_frequency(void) { refusal = lightplan_frequency(-284, 384, 0, 141, 2).refusal; }
 
@@ -134,6 +144,7 @@ int main(void)
     printf("bytes of stack\n");
     make_request(200, 32, 0);
     measure("lightplan_read, 200 demands of 32 links", call_read, 0, 0);
+    measure("lightplan_read_routes, the same", call_read_routes, 0, 200 * 32);
     make_plan(200, 0);
     measure("lightplan_check, the same and a plan of 200 rows", call_check, 0, 200);
     measure("lightplan_check_starts, the same", call_check_starts, 0, 200);
@@ -146,5 +157,6 @@ int main(void)
     file_bytes--;
     measure("lightplan_search, refused: the file is cut short", call_search, LIGHTPLAN_PAST_END, 0);
     measure("lightplan_frequency", call_frequency, 0, 0);
+    measure("lightplan_version", call_version, 0, 0);
     return 0;
 }

@@ -67,7 +67,7 @@ compile() {
 all_sanitizers
 entries="tests/host/entries.c tests/host/lent.c tests/host/seen.c"
 wrong=tests/host/wrong.c
-for entry in read search check check_starts frequency; do
+for entry in read read_routes search check check_starts frequency version; do
     wrong="$wrong -Wl,--wrap=lightplan_$entry"
 done
 # shellcheck disable=SC2086
@@ -82,9 +82,9 @@ hosts/c/build.sh
 
 # ---- the archive
 
-# The five entries are all that it offers; it has no variable of its own, and takes nothing but copying and filling from the C library.
+# The seven entries are all that it offers; it has no variable of its own, and takes nothing but copying and filling from the C library.
 archive() {
-    local names=lightplan_check,lightplan_check_starts,lightplan_frequency,lightplan_read,lightplan_search,
+    local names=lightplan_check,lightplan_check_starts,lightplan_frequency,lightplan_read,lightplan_read_routes,lightplan_search,lightplan_version,
     nm "$HOST_LIBRARY" >"$work/names"
     [ "$(awk '$2 ~ /^[A-TV-Z]$/ || $2 ~ /^[vw]$/ { print $3 }' "$work/names" | sort | tr '\n' ,)" = "$names" ] || failed "the archive offers other names"
     ! awk '$2 ~ /^[bBcCdD]$/ { found = 1 } END { exit !found }' "$work/names" || failed "the archive has variables"
@@ -145,10 +145,10 @@ searches() {
     says 1 'Nothing fits, proved: the search accounted for every order of the demands, and no plan ends within 2 slots.' search examples/tight.request
     { head -c 5 examples/R.request; printf '\0\3'; tail -c +8 examples/R.request; } >"$work/narrow"
     says 1 'Nothing fits, proved: the fullest link needs 4 slots, and the band has 3.' search "$work/narrow" 0
-    says 1 'The request is refused: it has more than the 20 demands that can be searched. Place 91 is how many it has.' search examples/nsfnet91.request
-    says 1 'The request is refused: the file ends without a band or a link. Place 0 is its length in bytes.' search /dev/null
-    says 1 'The request is refused: a field has a tag that may not stand there. Place 0 is the byte, counted from 0, where that field begins.' search examples/R.plan
-    says 1 'The request is refused: the file is too long. Place 8128 is how many bytes it may have.' search /dev/zero
+    says 1 'The request file is refused: it has more than the 20 demands that can be searched. Place 91 is how many it has.' search examples/nsfnet91.request
+    says 1 'The request file is refused: the file ends without a band or a link. Place 0 is its length in bytes.' search /dev/null
+    says 1 'The request file is refused: a field has a tag that may not stand there. Place 0 is the byte, counted from 0, where that field begins.' search examples/R.plan
+    says 1 'The request file is refused: the file is too long. Place 8128 is how many bytes it may have.' search /dev/zero
     begins 'refused 20 8128'
 }
 
@@ -162,7 +162,7 @@ checks() {
     says 1 'The plan is refused: a demand of the request has no row. Place 0 is its listing position, counted from 0.' check examples/R.request /dev/null
     says 1 'The plan is refused: a row has an ident that no demand of the request has. Place 0 is the byte, counted from 0, where that field begins.' check examples/T.request examples/R.plan
     says 1 'The plan is refused: the file is too long. Place 1400 is how many bytes it may have.' check examples/R.request /dev/zero
-    says 1 'The request is refused: the file is too long. Place 8128 is how many bytes it may have.' check /dev/zero examples/R.plan
+    says 1 'The request file is refused: the file is too long. Place 8128 is how many bytes it may have.' check /dev/zero examples/R.plan
 }
 
 # Files on standard input, and what is not to be read or written.
@@ -293,6 +293,13 @@ unlike 7 "$work/refused" search "$work/cut"
 printf 'refused 18 2\n' >"$work/refused"
 unlike 19 "$work/refused" check examples/R.request examples/R-clash.plan
 unlike 25 "$work/refused" check examples/R.request examples/R-clash.plan
+# A refused plan told as a refused request, and a library of another version, show in lightdesk's words.
+WRONG=40 x86_run "$work/lightdesk-wrong" check examples/R.request examples/R-clash.plan >"$work/printed" || true
+grep -q '^The request file is refused: ' "$work/printed" || failed "lightdesk does not say which file is refused"
+status=0
+WRONG=42 x86_run "$work/lightdesk-wrong" search examples/R.request >"$work/printed" 2>"$work/said" || status=$?
+[ $status = 2 ] && [ ! -s "$work/printed" ] && [ -s "$work/said" ] || failed "lightdesk runs on a library of another version"
+passed=$((passed + 2))
 { echo 'accepted end 4 bound 4'; tail -n +2 "$work/R"; } >"$work/accepted"
 same "$work/accepted" check examples/R.request examples/R.plan
 for fault in 20 21 22; do

@@ -1,8 +1,9 @@
 #!/usr/bin/env bash
 # Holds docs/PROMISES.md against the sources. Each public function of each crate has one row there; the definitions that a row names are
 # cited by the function's contract and by the theorem beside them; the theorem and the two edits stand in the function's crate, and an edit
-# changes code, not a definition; and no public function has a `requires`. The last line is "N passed, M failed"; each failure is a line of
-# its own above it.
+# changes code, not a definition, and stands in one row; and no public function has a `requires`. What the documents name stands where they
+# say. What must be believed rests on nothing that is inner, and no crate with edits has more than 20 functions. The last line is "N passed,
+# M failed"; each failure is a line of its own above it.
 set -euo pipefail
 cd "$(dirname "$0")/.."
 
@@ -69,6 +70,9 @@ statement_of() {
 # Whether the first file that an edit changes is code of its crate.
 changes_code() { grep -m1 '^file:' "$1" | grep -q '^file: src/'; }
 
+# Whether a file defines or proves a name, for others to use.
+defines() { grep -qE "^ *(unfoldable |abbrev )?pub (record |data )?$2( |\$)" "$1" 2>/dev/null; }
+
 # A word that stands in the text on standard input, whole.
 has_word() { grep -qE "(^|[^[:alnum:]_′-])$1([^[:alnum:]_′-]|\$)"; }
 
@@ -132,11 +136,61 @@ while IFS='|' read -r key _; do
     if awk -F'|' -v key="$key" '$1 "::" $2 == key { found = 1 } END { exit !found }' "$work/functions"; then pass; else fail "$table has a row for $key, which is no public function"; fi
 done <"$work/rows"
 
-# Each theorem and definition that the documents name in the form crates/NAME/specs/FILE.antt `name` stands there.
-while read -r path name; do
-    if grep -qE "^ *(unfoldable |abbrev )?pub (record |data )?$name( |\$)" "$path" 2>/dev/null; then pass; else fail "$table names $name in $path, where it is not"; fi
-done < <(grep -ohE '`crates/[a-z]+/specs/[A-Za-z0-9]+\.antt` `[^` ]+`' "$table" | tr -d '`')
+# An edit stands in one row.
+while read -r edit; do
+    fail "the edit $edit stands in two rows of $table"
+done < <(awk -F'|' '{ split($1, name, "::"); print name[1] "/" $4; print name[1] "/" $5 }' "$work/rows" | sort | uniq -d)
 
+# Each theorem and definition that the table names in the form crates/NAME/specs/FILE.antt `name`, or with proofs/, stands there.
+while read -r path name; do
+    if defines "$path" "$name"; then pass; else fail "$table names $name in $path, where it is not"; fi
+done < <(grep -ohE '`crates/[a-z]+/(specs|proofs)/[A-Za-z0-9/]+\.antt` `[^` ]+`' "$table" | tr -d '`')
+
+# And those that the other documents name in the form NAME/specs/FILE `name`, `name`; or, in docs/MATHEMATICS.md, `name`, `name` (FILE), of
+# crate theory. A file of inner definitions may be named without its folder.
+named_elsewhere() {
+    grep -oE '[a-z]+/specs/[A-Za-z0-9/]+ `[^`/ ]+`(, `[^`/ ]+`)*' docs/*.md | while read -r found; do
+        place=${found#*:}
+        for name in $(grep -oE '`[^`]+`' <<<"$place" | tr -d '`'); do
+            echo "${found%%:*} ${place%% *} $name"
+        done
+    done
+    grep -oE '(`[^`/ ]+`, )*`[^`/ ]+`[*]* \([A-Z][A-Za-z]+\)' docs/MATHEMATICS.md | while read -r found; do
+        file=${found##*(}
+        for name in $(grep -oE '`[^`]+`' <<<"$found" | tr -d '`'); do
+            echo "docs/MATHEMATICS.md theory/specs/${file%)} $name"
+        done
+    done
+}
+while read -r document place name; do
+    case $name in *..) continue ;; esac
+    inner=${place%/*}/inner/${place##*/}
+    if defines "crates/$place.antt" "$name" || defines "crates/$inner.antt" "$name"; then
+        pass
+    else
+        fail "$document names $name in $place, where it is not"
+    fi
+done < <(named_elsewhere)
+
+# What must be believed rests on nothing that is inner, and no definition that serves proofs alone stands among what must be believed.
+unreached=$(python3 tests/lib/believed.py --unreached)
+if [ -z "$unreached" ]; then pass; else fail "no promise speaks of these definitions, so they belong into specs/inner: $unreached"; fi
+if parted=$(python3 tests/lib/believed.py --parted); then
+    pass
+else
+    while read -r line; do fail "$line"; done <<<"$parted"
+fi
+
+# A crate with edits has at most 20 functions: each edit has its whole crate proved once more.
+for crate in crates/*/; do
+    name=$(basename "$crate")
+    functions=$(find "$crate"src -name '*.rt' -exec cat {} + | grep -cE '^ *(pub(\(crate\))? )?(extern "C" )?fn ' || true)
+    edits=$(find "$crate" -path '*/must-fail/*.edit' | wc -l)
+    echo "$name: $functions functions, $edits edits"
+    if [ "$edits" = 0 ] || [ "$functions" -le 20 ]; then pass; else fail "$name has edits, and more than 20 functions"; fi
+done
+
+python3 tests/lib/believed.py | grep -v '^ '
 echo "public functions: $(wc -l <"$work/functions"); with no row: $without"
 echo "$passed passed, $failed failed"
 [ "$failed" = 0 ]

@@ -83,7 +83,7 @@ static enum status open_desk(const char *name, struct desk *desk)
     desk->request = lightplan_read(desk->file.bytes, desk->file.length, desk->idents, LIGHTPLAN_DEMANDS, desk->widths, LIGHTPLAN_DEMANDS);
     if (desk->request.refusal == LIGHTPLAN_ANSWERED)
         return YES;
-    print_refusal(stdout, desk->request.refusal, desk->request.place, "request", desk->file.length);
+    print_refusal(stdout, desk->request.refusal, desk->request.place, "request file", desk->file.length);
     return NO;
 }
 
@@ -151,7 +151,7 @@ static enum status search(const char *name, uint32_t limit)
     struct lightplan_answer answer =
         lightplan_search(desk.file.bytes, desk.file.length, limit, starts, LIGHTPLAN_SEARCHED, order, LIGHTPLAN_SEARCHED);
     if (answer.refusal != LIGHTPLAN_ANSWERED) {
-        print_refusal(stdout, answer.refusal, answer.place, "request", desk.file.length);
+        print_refusal(stdout, answer.refusal, answer.place, "request file", desk.file.length);
         return NO;
     }
     switch (answer.outcome) {
@@ -193,7 +193,10 @@ static enum status check(const char *request_name, const char *plan_name)
         lightplan_check(desk.file.bytes, desk.file.length, plan.bytes, plan.length, starts, LIGHTPLAN_DEMANDS);
     if (verdict.refusal == LIGHTPLAN_ANSWERED)
         return print_accepted(&desk, &verdict, starts);
-    print_refusal(stdout, verdict.refusal, verdict.place, "plan", plan.length);
+    if (verdict.which == LIGHTPLAN_OF_REQUEST)
+        print_refusal(stdout, verdict.refusal, verdict.place, "request file", desk.file.length);
+    else
+        print_refusal(stdout, verdict.refusal, verdict.place, "plan", plan.length);
     return NO;
 }
 
@@ -230,6 +233,10 @@ static enum status run(int count, char **words)
 
 int main(int count, char **words)
 {
+    if (lightplan_version() != LIGHTPLAN_VERSION) {
+        fprintf(stderr, "lightdesk: made for version %d of the library\n", LIGHTPLAN_VERSION);
+        return TROUBLE;
+    }
     enum status status = run(count, words);
     int lost = ferror(stdout);
     if (fclose(stdout))

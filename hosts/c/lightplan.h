@@ -1,4 +1,4 @@
-/* Lightplan for C: reads request files, searches for the plan that ends lowest, checks plans. Five calls over a library in which every
+/* Lightplan for C: reads request files, searches for the plan that ends lowest, checks plans. Seven calls over a library in which every
    function is proved to meet its contract.
 
    A request lists demands (circuits): each has an ident, a width in slots and a route over links. A plan gives each demand a start, its
@@ -9,8 +9,8 @@
    pointer after it returns, and wants the pointer aligned for its elements. A buffer that a call writes must not overlap anything else
    that the call is lent. With the count 0 the pointer is not looked at, and may be NULL.
 
-   Refusals. Every answer begins with `refusal`. It is 0 for an answer. Else it is a number of enum lightplan_refusal, `place` says where
-   the fault is, every other field is 0, and every lent buffer is exactly as it was.
+   Refusals. Every struct begins with `refusal`. It is 0 for an answer. Else it is a number of enum lightplan_refusal, `place` says where
+   the fault is, every other field is 0 (but for `which` of a verdict), and every lent buffer is exactly as it was.
 
    Calls. No call fails otherwise, whatever the bytes are. There is no global state, no allocation, no input or output: calls may run in
    any number of threads at once, each with buffers of its own. All that a call needs besides is stack, see LIGHTPLAN_STACK. */
@@ -24,6 +24,10 @@
 extern "C" {
 #endif
 
+/* The version of these calls and structs. A library fits this header where lightplan_version() answers the same number.
+   Changes: 2 numbers outcomes from 1 (1 did from 0), tells what a check refuses, and adds lightplan_read_routes and this number. */
+#define LIGHTPLAN_VERSION 2
+
 /* The longest files that are read. To see that a file is too long it is enough to give one byte more. */
 #define LIGHTPLAN_REQUEST_BYTES 8128
 #define LIGHTPLAN_PLAN_BYTES 1400
@@ -31,19 +35,27 @@ extern "C" {
 /* The most demands of a request, so that buffers of as many entries are never too short for lightplan_read and lightplan_check. */
 #define LIGHTPLAN_DEMANDS 200
 
+/* The most links of a request, and the most links of a route; so that buffers of as many entries are never too short for
+   lightplan_read_routes: LIGHTPLAN_ENDS for ends, LIGHTPLAN_DEMANDS for hops, LIGHTPLAN_ROUTES for routes. */
+#define LIGHTPLAN_LINKS 64
+#define LIGHTPLAN_HOPS 32
+#define LIGHTPLAN_ENDS (2 * LIGHTPLAN_LINKS)
+#define LIGHTPLAN_ROUTES (LIGHTPLAN_DEMANDS * LIGHTPLAN_HOPS)
+
 /* The most demands that are searched, so that buffers of as many entries are never too short for lightplan_search. */
 #define LIGHTPLAN_SEARCHED 20
 
-/* A stack of so many bytes is enough for any of the calls, on x86-64. Measured with the heaviest inputs: lightplan_read 59208,
-   lightplan_check 61368, lightplan_search 60440, lightplan_check_starts 49416, lightplan_frequency 40. */
+/* A stack of so many bytes is enough for any of the calls, on x86-64. Measured with the heaviest inputs: lightplan_read 59224,
+   lightplan_read_routes 59064, lightplan_check 61384, lightplan_search 60440, lightplan_check_starts 49432, lightplan_frequency 40,
+   lightplan_version 8. */
 #define LIGHTPLAN_STACK 98304
 
 /* Why there is no answer. "Offset" is the byte of the file where the faulty field begins. */
 enum lightplan_refusal {
     LIGHTPLAN_ANSWERED = 0,           /* no refusal */
     LIGHTPLAN_PAST_END = 1,           /* a field runs past the end of its file; place: offset */
-    LIGHTPLAN_WRONG_TAG = 2,          /* a tag that may not stand there; place: offset. A request file that ends without a band or a
-                                         link; place: the file's length */
+    LIGHTPLAN_WRONG_TAG = 2,          /* an unknown tag, or one out of its turn; place: offset. Or a request file is over before its
+                                         band or its first link; place: the file's length */
     LIGHTPLAN_WRONG_LENGTH = 3,       /* a field's length is wrong for its tag; place: offset */
     LIGHTPLAN_BAND_OUTSIDE = 4,       /* a number of the band is out of its range; place: offset, in lightplan_frequency 0 */
     LIGHTPLAN_BAD_LINK = 5,           /* a link beyond the 64th, or one that leads back to its own node; place: offset */
@@ -51,7 +63,7 @@ enum lightplan_refusal {
     LIGHTPLAN_BAD_ROUTE = 7,          /* a route that breaks, or has a link that is not listed or stands in it twice; place: offset */
     LIGHTPLAN_IDENT_USED = 8,         /* an ident that an earlier demand has; place: offset */
     LIGHTPLAN_BAD_WIDTH = 9,          /* a width of 0 or above the slot count; place: offset, in lightplan_frequency 0 */
-    LIGHTPLAN_BUFFER_SHORT = 10,      /* a result buffer has too few entries; place: how many it needs, K */
+    LIGHTPLAN_BUFFER_SHORT = 10,      /* a result buffer has too few entries; place: how many it needs */
     LIGHTPLAN_TOO_MANY_TO_SEARCH = 11, /* more than 20 demands for a search; place: K */
     LIGHTPLAN_NOT_AN_ORDER = 12,      /* of a call that is not offered to C */
     LIGHTPLAN_NO_START = 13,          /* of a call that is not offered to C */
@@ -61,18 +73,26 @@ enum lightplan_refusal {
                                          many starts were given */
     LIGHTPLAN_END_ABOVE = 17,         /* an end above the slot count; place: offset in the plan file, in lightplan_check_starts the first
                                          such listing position, in lightplan_frequency 0 */
-    LIGHTPLAN_CLASH = 18,             /* two demands share a link, and the guard does not part them; place: the first listing position
-                                         that clashes with an earlier one */
+    LIGHTPLAN_CLASH = 18,             /* on a link that they share two demands overlap, or leave less than the guard free; place: the
+                                         lowest listing position that is too near to one before it */
     LIGHTPLAN_NO_BLOCK = 19,          /* of a call that is not offered to C */
     LIGHTPLAN_FILE_TOO_LONG = 20      /* a file above its limit; place: the limit, 8128 for a request and 1400 for a plan */
 };
 
-/* How a search came out. */
+/* How a search came out. A struct of zeros, and a refusal, has none of these. */
 enum lightplan_outcome {
-    LIGHTPLAN_FINISHED = 0,        /* a plan, proved the best: no allowed plan at all ends lower */
-    LIGHTPLAN_NOTHING_FITS = 1,    /* proved: no plan is allowed */
-    LIGHTPLAN_UNFINISHED = 2,      /* the steps ran out; the best plan met so far, which may not be the best there is */
-    LIGHTPLAN_UNFINISHED_EMPTY = 3 /* the steps ran out before a plan was met; there may be one */
+    LIGHTPLAN_FINISHED = 1,        /* a plan, proved the best: no allowed plan at all ends lower */
+    LIGHTPLAN_NOTHING_FITS = 2,    /* proved: no plan is allowed */
+    LIGHTPLAN_UNFINISHED = 3,      /* the steps ran out; the best plan met so far, which may not be the best there is */
+    LIGHTPLAN_UNFINISHED_EMPTY = 4 /* the steps ran out before a plan was met; there may be one */
+};
+
+/* What a check refuses. */
+enum lightplan_which {
+    LIGHTPLAN_OF_NOTHING = 0, /* nothing: the plan is accepted */
+    LIGHTPLAN_OF_REQUEST = 1, /* the request file; the place is in it */
+    LIGHTPLAN_OF_PLAN = 2,    /* the plan file, or the starts; the place is in them */
+    LIGHTPLAN_OF_BUFFER = 3   /* the lent buffer is too short for the starts of a plan that is allowed; with refusal 10 alone */
 };
 
 /* What a request file holds. */
@@ -87,11 +107,20 @@ struct lightplan_request {
     uint32_t bound;  /* the end that no plan can be below: what the fullest link needs. Up to 78392 */
 };
 
+/* How long the lists of a request file are. */
+struct lightplan_routes {
+    uint8_t refusal; /* 0, or a number of enum lightplan_refusal */
+    size_t place;    /* where the fault is; 0 without one */
+    size_t links;    /* how many links: 1 to 64 */
+    size_t demands;  /* how many demands, K: 0 to 200 */
+    size_t hops;     /* how many links all routes have together: 0 to 6400 */
+};
+
 /* What a search answers. */
 struct lightplan_answer {
     uint8_t refusal;  /* 0, or a number of enum lightplan_refusal */
     size_t place;     /* where the fault is; 0 without one */
-    uint8_t outcome;  /* a number of enum lightplan_outcome; means nothing beside a refusal */
+    uint8_t outcome;  /* a number of enum lightplan_outcome; 0 beside a refusal */
     uint16_t end;     /* the plan's end, its largest; 0 without a plan */
     uint32_t bound;   /* the end that no plan can be below. An end that equals it is the best for that reason alone */
     uint32_t steps;   /* steps taken, never more than the limit: a step puts one demand down */
@@ -103,6 +132,7 @@ struct lightplan_answer {
 struct lightplan_verdict {
     uint8_t refusal; /* 0: the plan is allowed; else a number of enum lightplan_refusal */
     size_t place;    /* where the fault is; 0 without one */
+    uint8_t which;   /* a number of enum lightplan_which: what is refused */
     uint16_t end;    /* the plan's end, its largest */
     uint32_t bound;  /* the end that no plan can be below. An allowed plan whose end equals it is the best there is */
 };
@@ -120,6 +150,13 @@ struct lightplan_frequency_of {
    stands behind them stays. Refusals: 20, then field by field 1 to 9; 10 last, for idents and then for widths. */
 struct lightplan_request lightplan_read(const uint8_t *file, size_t file_bytes, uint16_t *idents, size_t idents_count, uint16_t *widths,
                                         size_t widths_count);
+
+/* Reads the links and the routes of a request file; with lightplan_read that is all that is in it. `ends` gets two entries for each link:
+   the node where link k begins at 2k, and the node it leads to at 2k + 1. The first K entries of `hops` get how many links each demand's
+   route has, by listing position, and `routes` the links' numbers of all routes, one route after the other in listing order. What stands
+   behind these entries stays. Refusals: lightplan_read's of the file; 10 last, for ends, for hops and then for routes. */
+struct lightplan_routes lightplan_read_routes(const uint8_t *file, size_t file_bytes, uint16_t *ends, size_t ends_count, uint16_t *hops,
+                                              size_t hops_count, uint16_t *routes, size_t routes_count);
 
 /* Searches a request file's demands, at most 20, for the plan with the lowest end, in at most `limit` steps. With a plan the first K
    entries of `starts` get its starts by listing position and those of `order` the listing positions in the order that gave them; without
@@ -139,6 +176,9 @@ struct lightplan_verdict lightplan_check_starts(const uint8_t *file, size_t file
 
 /* The frequency of the block that begins at slot `start` and is `width` slots wide, in a band of these numbers. Refusals: 4, 9, 17. */
 struct lightplan_frequency_of lightplan_frequency(int16_t n0, uint16_t slots, uint8_t guard, uint16_t start, uint16_t width);
+
+/* The library's version: LIGHTPLAN_VERSION where this header fits it. */
+uint32_t lightplan_version(void);
 
 #ifdef __cplusplus
 }

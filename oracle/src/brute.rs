@@ -60,7 +60,7 @@ fn share(request: &Request, one: usize, other: usize) -> bool {
     request.demands[one].route.iter().any(|link| request.demands[other].route.contains(link))
 }
 
-/// One of the two has end + G at most the other's start.
+/// Whether one of the two is over, its guard too, before the other begins.
 fn apart(request: &Request, starts: &[i64], one: usize, other: usize) -> bool {
     let end = |position: usize| starts[position] + request.demands[position].width;
     let guard = request.band.guard;

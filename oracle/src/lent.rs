@@ -23,7 +23,7 @@ fn short_place(room: usize, need: usize, rules: &Rules) -> usize {
     }
 }
 
-/// Writes the values to the front. Entries after the last one written stay unchanged.
+/// Writes the values to the front and leaves the rest of the buffer alone.
 pub fn write<T: Copy>(out: &mut [T], values: &[T], zero: T, rules: &Rules) {
     for (entry, &value) in out.iter_mut().zip(values) {
         *entry = value;

@@ -71,7 +71,7 @@ fn known(request: &Request, starts: &[i64]) -> Vec<Option<i64>> {
     (0..request.demand_count).map(|position| starts.get(position).copied()).collect()
 }
 
-/// 16: fewer than K starts; the place is how many.
+/// 16 where some demand has no start; told at how many there are.
 fn test_given(request: &Request, starts: &[i64], rules: &Rules) -> Result<(), Refusal> {
     let count = request.demand_count;
     let extra = rules.slips(Slip::ExtraStartsRefused) && starts.len() > count;

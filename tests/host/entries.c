@@ -9,13 +9,13 @@
 #include <stdlib.h>
 #include <string.h>
 
-enum { STEPS = 3000, PLENTY = 203, NAME_BYTES = 4096 };
+enum { STEPS = 3000, PLENTY = 203, PLENTY_OF_HOPS = 6403, NAME_BYTES = 4096 };
 
 static const char *now_testing = "no file";
 static unsigned long compared;
 
-/* lent to the calls: two files and two buffers */
-static struct lent request_lent, plan_lent, first_lent, second_lent;
+/* lent to the calls: two files and three buffers */
+static struct lent request_lent, plan_lent, first_lent, second_lent, third_lent;
 
 static void hold_at(int line, int holds, const char *what)
 {
@@ -84,13 +84,66 @@ static void test_read(const struct seen *seen)
     hold_too_short(&request, k);
 }
 
+/* ---- lightplan_read_routes */
+
+static struct lightplan_routes routes_with(const uint8_t *file, size_t bytes, size_t ends, size_t hops, size_t routes)
+{
+    uint16_t *first = lent_out(&first_lent, 2 * ends), *second = lent_out(&second_lent, 2 * hops);
+    uint16_t *third = lent_out(&third_lent, 2 * routes);
+    return lightplan_read_routes(file, bytes, first, ends, second, hops, third, routes);
+}
+
+/* a refusal: nothing else is told, nothing is written */
+static void hold_no_routes(struct lightplan_routes told, unsigned refusal, size_t place)
+{
+    HOLD(told.refusal == refusal && told.place == place);
+    HOLD(told.links == 0 && told.demands == 0 && told.hops == 0);
+    hold_written(0);
+    HOLD(lent_kept(&third_lent, 0));
+}
+
+/* all links and routes, as the file's own bytes have them */
+static void hold_routes(const struct seen *seen, size_t ends, size_t hops, size_t routes)
+{
+    struct lightplan_routes told = routes_with(seen->file, seen->bytes, ends, hops, routes);
+    HOLD(told.refusal == LIGHTPLAN_ANSWERED && told.place == 0);
+    HOLD(told.links == seen->links && told.demands == seen->demands && told.hops == seen->all_hops);
+    HOLD(!memcmp(first_lent.first + LENT_BYTES - 2 * ends, seen->ends, 4 * seen->links));
+    HOLD(!memcmp(second_lent.first + LENT_BYTES - 2 * hops, seen->hops, 2 * seen->demands));
+    HOLD(!memcmp(third_lent.first + LENT_BYTES - 2 * routes, seen->routes, 2 * seen->all_hops));
+    HOLD(lent_kept(&first_lent, 4 * seen->links) && lent_kept(&second_lent, 2 * seen->demands) &&
+         lent_kept(&third_lent, 2 * seen->all_hops));
+}
+
+static void test_routes(const struct seen *seen)
+{
+    size_t e = 2 * seen->links, k = seen->demands, h = seen->all_hops;
+    hold_routes(seen, PLENTY, PLENTY, PLENTY_OF_HOPS);
+    hold_routes(seen, e, k, h);
+    hold_routes(seen, e + 1, k + 1, h + 1);
+    hold_no_routes(routes_with(seen->file, seen->bytes, e - 1, k, h), LIGHTPLAN_BUFFER_SHORT, e);
+    hold_no_routes(routes_with(seen->file, seen->bytes, 0, 0, 0), LIGHTPLAN_BUFFER_SHORT, e);
+    if (k == 0)
+        return;
+    hold_no_routes(routes_with(seen->file, seen->bytes, e, k - 1, h), LIGHTPLAN_BUFFER_SHORT, k);
+    hold_no_routes(routes_with(seen->file, seen->bytes, e, k - 1, 0), LIGHTPLAN_BUFFER_SHORT, k);
+    hold_no_routes(routes_with(seen->file, seen->bytes, e, k, h - 1), LIGHTPLAN_BUFFER_SHORT, h);
+    hold_no_routes(routes_with(seen->file, seen->bytes, e, k, 0), LIGHTPLAN_BUFFER_SHORT, h);
+}
+
 /* ---- lightplan_check_starts */
 
-static void hold_verdict(struct lightplan_verdict verdict, unsigned refusal, size_t place)
+static void hold_verdict(struct lightplan_verdict verdict, unsigned refusal, size_t place, unsigned which)
 {
-    HOLD(verdict.refusal == refusal && verdict.place == place);
+    HOLD(verdict.refusal == refusal && verdict.place == place && verdict.which == which);
     if (refusal)
         HOLD(verdict.end == 0 && verdict.bound == 0);
+}
+
+/* accepted, or a refusal of the plan */
+static void hold_plan(struct lightplan_verdict verdict, unsigned refusal, size_t place)
+{
+    hold_verdict(verdict, refusal, place, refusal ? LIGHTPLAN_OF_PLAN : LIGHTPLAN_OF_NOTHING);
 }
 
 /* checks starts that are lent so that none behind them can be read */
@@ -112,17 +165,17 @@ static void hold_allowed(const struct seen *seen, const uint16_t *allowed)
     starts[k] = starts[k + 1] = 65535;
     for (size_t count = k; count <= k + 2; count += 2) {
         struct lightplan_verdict verdict = check_starts(seen, starts, count);
-        hold_verdict(verdict, LIGHTPLAN_ANSWERED, 0);
+        hold_plan(verdict, LIGHTPLAN_ANSWERED, 0);
         HOLD(verdict.end == end_of(seen, allowed) && verdict.bound == seen->bound && seen->bound <= verdict.end);
     }
     if (k == 0)
         return;
-    hold_verdict(check_starts(seen, starts, k - 1), LIGHTPLAN_NO_ROW, k - 1);
-    hold_verdict(check_starts(seen, starts, 0), LIGHTPLAN_NO_ROW, 0);
+    hold_plan(check_starts(seen, starts, k - 1), LIGHTPLAN_NO_ROW, k - 1);
+    hold_plan(check_starts(seen, starts, 0), LIGHTPLAN_NO_ROW, 0);
     starts[k / 2] = (uint16_t)(seen->slots - seen->widths[k / 2] + 1);
-    hold_verdict(check_starts(seen, starts, k), LIGHTPLAN_END_ABOVE, k / 2);
+    hold_plan(check_starts(seen, starts, k), LIGHTPLAN_END_ABOVE, k / 2);
     starts[k / 2] = 65535;
-    hold_verdict(check_starts(seen, starts, k), LIGHTPLAN_END_ABOVE, k / 2);
+    hold_plan(check_starts(seen, starts, k), LIGHTPLAN_END_ABOVE, k / 2);
 }
 
 /* ---- lightplan_search */
@@ -165,7 +218,7 @@ static struct lightplan_answer hold_search(const struct seen *seen, uint32_t lim
     size_t k = seen->demands;
     struct lightplan_answer answer = search_with(seen->file, seen->bytes, limit, room, room);
     HOLD(answer.refusal == LIGHTPLAN_ANSWERED && answer.place == 0);
-    HOLD(answer.outcome <= LIGHTPLAN_UNFINISHED_EMPTY && answer.steps <= limit);
+    HOLD(LIGHTPLAN_FINISHED <= answer.outcome && answer.outcome <= LIGHTPLAN_UNFINISHED_EMPTY && answer.steps <= limit);
     memcpy(starts, first_lent.first + LENT_BYTES - 2 * room, 2 * k);
     memcpy(order, second_lent.first + LENT_BYTES - 2 * room, 2 * k);
     hold_sums(seen, &answer, order);
@@ -229,13 +282,13 @@ static void test_accepted(const struct seen *seen, const uint8_t *plan, size_t b
     hold_allowed(seen, starts);
     for (size_t room = k; room <= PLENTY; room += PLENTY - k) {
         struct lightplan_verdict verdict = check_with(seen, plan, bytes, room);
-        hold_verdict(verdict, LIGHTPLAN_ANSWERED, 0);
+        hold_plan(verdict, LIGHTPLAN_ANSWERED, 0);
         HOLD(verdict.end == end_of(seen, starts) && verdict.bound == seen->bound);
         HOLD(!memcmp(first_lent.first + LENT_BYTES - 2 * room, starts, 2 * k));
         HOLD(lent_kept(&first_lent, 2 * k));
     }
     if (k > 0) {
-        hold_verdict(check_with(seen, plan, bytes, k - 1), LIGHTPLAN_BUFFER_SHORT, k);
+        hold_verdict(check_with(seen, plan, bytes, k - 1), LIGHTPLAN_BUFFER_SHORT, k, LIGHTPLAN_OF_BUFFER);
         HOLD(lent_kept(&first_lent, 0));
     }
 }
@@ -247,14 +300,14 @@ static void test_plan(const struct seen *seen, const uint8_t *plan, size_t bytes
         test_accepted(seen, plan, bytes);
         return;
     }
-    hold_verdict(verdict, verdict.refusal, verdict.place);
+    hold_plan(verdict, verdict.refusal, verdict.place);
     HOLD(lent_kept(&first_lent, 0));
     struct lightplan_verdict without_room = check_with(seen, plan, bytes, 0);
-    hold_verdict(without_room, verdict.refusal, verdict.place);
+    hold_plan(without_room, verdict.refusal, verdict.place);
     if (verdict.refusal == LIGHTPLAN_CLASH) {
         uint16_t starts[LIGHTPLAN_DEMANDS] = {0};
         starts_of_rows(seen, plan, bytes, starts);
-        hold_verdict(check_starts(seen, starts, seen->demands), LIGHTPLAN_CLASH, verdict.place);
+        hold_plan(check_starts(seen, starts, seen->demands), LIGHTPLAN_CLASH, verdict.place);
     }
 }
 
@@ -287,6 +340,15 @@ static void test_frequencies(void)
 
 /* ---- what needs no file */
 
+/* the header is the library's, and a struct of zeros tells of no outcome */
+static void test_version(void)
+{
+    struct lightplan_answer zeros = {0};
+    HOLD(lightplan_version() == LIGHTPLAN_VERSION);
+    HOLD(zeros.outcome != LIGHTPLAN_FINISHED && zeros.outcome != LIGHTPLAN_NOTHING_FITS && zeros.outcome != LIGHTPLAN_UNFINISHED &&
+         zeros.outcome != LIGHTPLAN_UNFINISHED_EMPTY);
+}
+
 /* with nothing lent, a pointer is not looked at */
 static void test_nothing(void)
 {
@@ -294,8 +356,10 @@ static void test_nothing(void)
     struct lightplan_answer answer = lightplan_search(NULL, 0, STEPS, NULL, 0, NULL, 0);
     HOLD(request.refusal == LIGHTPLAN_WRONG_TAG && request.place == 0);
     HOLD(answer.refusal == LIGHTPLAN_WRONG_TAG && answer.place == 0);
-    hold_verdict(lightplan_check(NULL, 0, NULL, 0, NULL, 0), LIGHTPLAN_WRONG_TAG, 0);
-    hold_verdict(lightplan_check_starts(NULL, 0, NULL, 0), LIGHTPLAN_WRONG_TAG, 0);
+    struct lightplan_routes routes = lightplan_read_routes(NULL, 0, NULL, 0, NULL, 0, NULL, 0);
+    HOLD(routes.refusal == LIGHTPLAN_WRONG_TAG && routes.place == 0);
+    hold_verdict(lightplan_check(NULL, 0, NULL, 0, NULL, 0), LIGHTPLAN_WRONG_TAG, 0, LIGHTPLAN_OF_REQUEST);
+    hold_verdict(lightplan_check_starts(NULL, 0, NULL, 0), LIGHTPLAN_WRONG_TAG, 0, LIGHTPLAN_OF_REQUEST);
 }
 
 /* a band and a link, no demand: nothing lent is enough for every answer */
@@ -305,9 +369,24 @@ static void test_no_demand(void)
     struct lightplan_request request = lightplan_read(file, sizeof file, NULL, 0, NULL, 0);
     struct lightplan_answer answer = lightplan_search(file, sizeof file, 0, NULL, 0, NULL, 0);
     HOLD(request.refusal == LIGHTPLAN_ANSWERED && request.slots == 1 && request.links == 1 && request.demands == 0 && request.bound == 0);
+    uint16_t ends[2] = {7, 7};
+    struct lightplan_routes routes = lightplan_read_routes(file, sizeof file, ends, 2, NULL, 0, NULL, 0);
+    HOLD(routes.refusal == LIGHTPLAN_ANSWERED && routes.links == 1 && routes.demands == 0 && routes.hops == 0);
+    HOLD(ends[0] == 0 && ends[1] == 1);
     HOLD(answer.refusal == LIGHTPLAN_ANSWERED && answer.outcome == LIGHTPLAN_FINISHED && answer.steps == 0 && answer.reached == 1);
-    hold_verdict(lightplan_check(file, sizeof file, NULL, 0, NULL, 0), LIGHTPLAN_ANSWERED, 0);
-    hold_verdict(lightplan_check_starts(file, sizeof file, NULL, 0), LIGHTPLAN_ANSWERED, 0);
+    hold_plan(lightplan_check(file, sizeof file, NULL, 0, NULL, 0), LIGHTPLAN_ANSWERED, 0);
+    hold_plan(lightplan_check_starts(file, sizeof file, NULL, 0), LIGHTPLAN_ANSWERED, 0);
+}
+
+/* the same request in a band of three slots, for which no plan is allowed */
+static void test_narrow(const uint8_t *wide)
+{
+    uint8_t file[43];
+    memcpy(file, wide, sizeof file);
+    file[5] = 0;
+    file[6] = 3;
+    struct lightplan_answer answer = search_with(file, sizeof file, 0, 3, 3);
+    HOLD(answer.refusal == LIGHTPLAN_ANSWERED && answer.outcome == LIGHTPLAN_NOTHING_FITS && answer.bound == 4);
 }
 
 /* three demands on two links, with every number known */
@@ -322,15 +401,23 @@ static void test_known(void)
         3, 0, 5, 0, 30, 0, 3, 1,
     };
     static const uint16_t found[3] = {0, 3, 0}, order[3] = {0, 2, 1}, clashing[3] = {0, 2, 2};
+    static const uint16_t ends[4] = {0, 1, 1, 2}, hops[3] = {1, 2, 1}, routes[4] = {0, 0, 1, 1};
+    struct lightplan_routes told = routes_with(file, sizeof file, 4, 3, 4);
+    HOLD(told.refusal == LIGHTPLAN_ANSWERED && told.links == 2 && told.demands == 3 && told.hops == 4);
+    HOLD(!memcmp(first_lent.first + LENT_BYTES - 8, ends, 8) && !memcmp(second_lent.first + LENT_BYTES - 6, hops, 6));
+    HOLD(!memcmp(third_lent.first + LENT_BYTES - 8, routes, 8));
     struct lightplan_answer answer = search_with(file, sizeof file, 5, 3, 3);
     HOLD(answer.outcome == LIGHTPLAN_FINISHED && answer.end == 4 && answer.bound == 4);
     HOLD(answer.steps == 5 && answer.reached == 2 && answer.ruled == 0);
     HOLD(!memcmp(first_lent.first + LENT_BYTES - 6, found, 6) && !memcmp(second_lent.first + LENT_BYTES - 6, order, 6));
     answer = search_with(file, sizeof file, 4, 3, 3);
     HOLD(answer.outcome == LIGHTPLAN_UNFINISHED && answer.end == 6 && answer.steps == 4);
-    hold_verdict(lightplan_check_starts(file, sizeof file, clashing, 3), LIGHTPLAN_CLASH, 2);
-    hold_verdict(lightplan_check_starts(file, sizeof file, NULL, 0), LIGHTPLAN_NO_ROW, 0);
-    hold_verdict(lightplan_check(file, sizeof file, NULL, 0, NULL, 0), LIGHTPLAN_NO_ROW, 0);
+    answer = search_with(file, sizeof file, 0, 3, 3);
+    HOLD(answer.outcome == LIGHTPLAN_UNFINISHED_EMPTY && answer.end == 0 && answer.steps == 0);
+    test_narrow(file);
+    hold_plan(lightplan_check_starts(file, sizeof file, clashing, 3), LIGHTPLAN_CLASH, 2);
+    hold_plan(lightplan_check_starts(file, sizeof file, NULL, 0), LIGHTPLAN_NO_ROW, 0);
+    hold_plan(lightplan_check(file, sizeof file, NULL, 0, NULL, 0), LIGHTPLAN_NO_ROW, 0);
 }
 
 /* ---- files */
@@ -356,13 +443,15 @@ static void test_refused(const uint8_t *file, size_t bytes, const struct lightpl
     uint16_t none = 0;
     hold_no_request(request);
     HOLD(request->refusal != LIGHTPLAN_BUFFER_SHORT);
+    hold_no_routes(routes_with(file, bytes, PLENTY, PLENTY, PLENTY_OF_HOPS), request->refusal, request->place);
+    hold_no_routes(routes_with(file, bytes, 0, 0, 0), request->refusal, request->place);
     hold_no_answer(search_with(file, bytes, STEPS, PLENTY, PLENTY), request->refusal, request->place);
     hold_no_answer(search_with(file, bytes, 0, 0, 0), request->refusal, request->place);
-    hold_verdict(check_with(&seen, (const uint8_t *)&none, 0, 0), request->refusal, request->place);
-    hold_verdict(check_with(&seen, (const uint8_t *)&none, 2, PLENTY), request->refusal, request->place);
+    hold_verdict(check_with(&seen, (const uint8_t *)&none, 0, 0), request->refusal, request->place, LIGHTPLAN_OF_REQUEST);
+    hold_verdict(check_with(&seen, (const uint8_t *)&none, 2, PLENTY), request->refusal, request->place, LIGHTPLAN_OF_REQUEST);
     HOLD(lent_kept(&first_lent, 0));
-    hold_verdict(check_starts(&seen, &none, 0), request->refusal, request->place);
-    hold_verdict(check_starts(&seen, &none, 1), request->refusal, request->place);
+    hold_verdict(check_starts(&seen, &none, 0), request->refusal, request->place, LIGHTPLAN_OF_REQUEST);
+    hold_verdict(check_starts(&seen, &none, 1), request->refusal, request->place, LIGHTPLAN_OF_REQUEST);
 }
 
 static void test_file(const char *name)
@@ -380,6 +469,7 @@ static void test_file(const char *name)
     }
     see(&seen, file, bytes);
     test_read(&seen);
+    test_routes(&seen);
     test_search(&seen);
     snprintf(plan_name, sizeof plan_name, "%.*s.plan", (int)stem, name);
     if (lend_file(plan_name, &plan_lent, &plan, &plan_bytes))
@@ -393,8 +483,10 @@ int main(int count, char **words)
     lent_make(&plan_lent);
     lent_make(&first_lent);
     lent_make(&second_lent);
+    lent_make(&third_lent);
     lent_out(&plan_lent, 0);
     test_frequencies();
+    test_version();
     test_nothing();
     test_no_demand();
     test_known();

@@ -5,7 +5,7 @@
 #include <stddef.h>
 #include <stdint.h>
 
-enum { FILLED = 0xA5, LENT_BYTES = 12288 };
+enum { FILLED = 0xA5, LENT_BYTES = 16384 };
 
 /* LENT_BYTES of memory with a page behind them that may not be touched. What is lent lies at their very end, so that a step beyond it
    ends the program; the bytes in front of it are filled, and are looked at after a call. */

@@ -18,16 +18,27 @@ static uint32_t bound_of(const struct seen *seen)
     return (uint32_t)most;
 }
 
+/* reads off the field of one demand */
+static void see_demand(struct seen *seen, const uint8_t *field)
+{
+    size_t hops = two(field + 1) - 4;
+    seen->idents[seen->demands] = (uint16_t)two(field + 3);
+    seen->widths[seen->demands] = (uint16_t)two(field + 5);
+    seen->hops[seen->demands++] = (uint16_t)hops;
+    for (size_t h = 0; h < hops; h++)
+        seen->routes[seen->all_hops++] = field[7 + h];
+}
+
 void see(struct seen *seen, const uint8_t *file, size_t bytes)
 {
     *seen = (struct seen){.file = file, .bytes = bytes, .slots = two(file + 5), .guard = file[7]};
     seen->n0 = (int)(two(file + 3) ^ 0x8000) - 0x8000;
     for (size_t at = 8; at < bytes; at += 3 + two(file + at + 1)) {
         if (file[at] == 2) {
-            seen->links++;
+            seen->ends[2 * seen->links] = file[at + 3];
+            seen->ends[2 * seen->links++ + 1] = file[at + 4];
         } else {
-            seen->idents[seen->demands] = (uint16_t)two(file + at + 3);
-            seen->widths[seen->demands++] = (uint16_t)two(file + at + 5);
+            see_demand(seen, file + at);
         }
     }
     seen->bound = bound_of(seen);

@@ -12,6 +12,8 @@ struct seen {
     unsigned slots, guard;
     uint32_t bound;
     uint16_t idents[LIGHTPLAN_DEMANDS], widths[LIGHTPLAN_DEMANDS];
+    uint16_t ends[LIGHTPLAN_ENDS], hops[LIGHTPLAN_DEMANDS], routes[LIGHTPLAN_ROUTES];
+    size_t all_hops;
 };
 
 /* Reads off what a request file says that was accepted. */

@@ -35,6 +35,17 @@ enum fault {
     FREQUENCY_N,
     FREQUENCY_MHZ,
     FREQUENCY_REFUSES,
+    SEARCH_OUTCOME,
+    ROUTES_END,
+    ROUTES_HOP,
+    ROUTES_LINK,
+    ROUTES_TOTAL,
+    ROUTES_BEHIND,
+    ROUTES_WRITES_REFUSED,
+    ROUTES_PLACE,
+    CHECK_WHICH,
+    STARTS_WHICH,
+    VERSION,
     FAULTS
 };
 
@@ -68,6 +79,30 @@ struct lightplan_request __wrap_lightplan_read(const uint8_t *file, size_t file_
     return r;
 }
 
+struct lightplan_routes __real_lightplan_read_routes(const uint8_t *, size_t, uint16_t *, size_t, uint16_t *, size_t, uint16_t *, size_t);
+
+struct lightplan_routes __wrap_lightplan_read_routes(const uint8_t *file, size_t file_bytes, uint16_t *ends, size_t ends_count,
+                                                     uint16_t *hops, size_t hops_count, uint16_t *routes, size_t routes_count)
+{
+    struct lightplan_routes r =
+        __real_lightplan_read_routes(file, file_bytes, ends, ends_count, hops, hops_count, routes, routes_count);
+    r.place += is(ROUTES_PLACE) && r.refusal;
+    if (r.refusal && is(ROUTES_WRITES_REFUSED) && hops_count)
+        hops[0] = 0;
+    if (r.refusal)
+        return r;
+    r.hops += is(ROUTES_TOTAL);
+    if (is(ROUTES_END))
+        ends[1]++;
+    if (r.demands && is(ROUTES_HOP))
+        hops[0]++;
+    if (r.hops && is(ROUTES_LINK))
+        routes[r.hops - 1]++;
+    if (r.hops < routes_count && is(ROUTES_BEHIND))
+        routes[r.hops] = 0;
+    return r;
+}
+
 struct lightplan_answer __real_lightplan_search(const uint8_t *, size_t, uint32_t, uint16_t *, size_t, uint16_t *, size_t);
 
 struct lightplan_answer __wrap_lightplan_search(const uint8_t *file, size_t file_bytes, uint32_t limit, uint16_t *starts,
@@ -88,6 +123,7 @@ struct lightplan_answer __wrap_lightplan_search(const uint8_t *file, size_t file
         order[0] = order[order_count - 1];
     if (plan && is(SEARCH_FINISHED))
         a.outcome = LIGHTPLAN_FINISHED;
+    a.outcome -= is(SEARCH_OUTCOME) && !a.refusal;
     if (!plan && starts_count && is(SEARCH_WRITES_WITHOUT))
         starts[0] = 0;
     if (plan && is(SEARCH_BEHIND))
@@ -104,10 +140,12 @@ struct lightplan_verdict __wrap_lightplan_check(const uint8_t *file, size_t file
     if (plan_bytes && is(CHECK_READS_ON))
         looked_at = plan[plan_bytes];
     v.place += is(CHECK_PLACE) && v.refusal;
+    if (v.refusal && is(CHECK_WHICH))
+        v.which = LIGHTPLAN_OF_REQUEST;
     if (v.refusal && is(CHECK_ACCEPTS))
         v = (struct lightplan_verdict){0};
     if (v.end && is(CHECK_REFUSES))
-        v = (struct lightplan_verdict){.refusal = LIGHTPLAN_CLASH};
+        v = (struct lightplan_verdict){.refusal = LIGHTPLAN_CLASH, .which = LIGHTPLAN_OF_PLAN};
     v.end += is(CHECK_END) && v.end;
     if (v.end && is(CHECK_START))
         starts[0]++;
@@ -125,6 +163,8 @@ struct lightplan_verdict __wrap_lightplan_check_starts(const uint8_t *file, size
         looked_at = (uint8_t)starts[starts_count];
     if (v.refusal == LIGHTPLAN_END_ABOVE && is(STARTS_CLASH_FIRST))
         v.refusal = LIGHTPLAN_CLASH;
+    if (v.refusal && is(STARTS_WHICH))
+        v.which = LIGHTPLAN_OF_REQUEST;
     v.end += is(STARTS_END) && !v.refusal;
     return v;
 }
@@ -140,3 +180,7 @@ struct lightplan_frequency_of __wrap_lightplan_frequency(int16_t n0, uint16_t sl
         f = (struct lightplan_frequency_of){.refusal = LIGHTPLAN_END_ABOVE};
     return f;
 }
+
+uint32_t __real_lightplan_version(void);
+
+uint32_t __wrap_lightplan_version(void) { return __real_lightplan_version() + is(VERSION); }

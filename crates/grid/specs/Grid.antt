@@ -88,7 +88,7 @@ abbrev pub evenNatural : ℤ → Bool
 evenNatural (pos d) = eqb (d % 2) 0
 evenNatural (negsuc d) = false
 
--- half of a number that is even and not negative
+-- half of such a number
 abbrev pub halfOf : ℤ → ℕ
 halfOf (pos d) = d / 2
 halfOf (negsuc d) = 0

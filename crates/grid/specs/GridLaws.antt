@@ -123,19 +123,6 @@ numbers-and-back band n m b h =
     frequency-centred band (halfOf (gapOf (band .n0) n m)) m (f .allowed) (f .width) (f .end) ∙
     ap (λ (k : ℤ). frequency-reply.Centred (record { n = k; m = m; mhz = centralMHz k })) (block-of-gap (band .n0) n m (f .even))
 
--- two numbers that are accepted are those of one block only
-pub one-block : (band : Band) (n : ℤ) (m : ℕ) (b : Block) → blockReply band n m ≡ block-reply.Found b → (s w : ℕ) (f : Frequency) → frequencyReply band s w ≡ frequency-reply.Centred f → f .n ≡ n → f .m ≡ m → record { start = s; width = w } ≡ b
-one-block band n m b h s w f k at-n at-m =
-    let back : blockReply band n m ≡ block-reply.Found (record { start = s; width = w }) =
-    rw (at-n, at-m) at (block-and-back band s w f k) in
-    cc
-
--- two blocks of a band with the same n and m are the same block
-pub blocks-apart : (band : Band) (s w s′ w′ : ℕ) (f f′ : Frequency) → frequencyReply band s w ≡ frequency-reply.Centred f → frequencyReply band s′ w′ ≡ frequency-reply.Centred f′ → f .n ≡ f′ .n → f .m ≡ f′ .m → (s ≡ s′) × (w ≡ w′)
-blocks-apart band s w s′ w′ f f′ h k at-n at-m =
-    let same = one-block band (f′ .n) (f′ .m) (record { start = s′; width = w′ }) (block-and-back band s′ w′ f′ k) s w f h at-n at-m in
-    (ap (λ (b : Block). b .start) same, ap (λ (b : Block). b .width) same)
-
 -- ---- each call has one right answer: two results that meet its contract are equal
 
 -- of `Band::new`
@@ -153,3 +140,11 @@ same-frequency band s w r r′ h k = h ∙ sym k
 -- of `from_frequency`
 pub same-block : (band : Band) (n : ℤ) (m : ℕ) (r r′ : BlockReply) → r ≡ blockReply band n m → r′ ≡ blockReply band n m → r ≡ r′
 same-block band n m r r′ h k = h ∙ sym k
+
+-- of `width_allowed`
+pub same-width : (S w : ℕ) (r r′ : Bool) → r ≡ allowedWidth S w → r′ ≡ allowedWidth S w → r ≡ r′
+same-width S w r r′ h k = h ∙ sym k
+
+-- of `end_within`
+pub same-end : (S s w : ℕ) (r r′ : Bool) → r ≡ endWithin S s w → r′ ≡ endWithin S s w → r ≡ r′
+same-end S s w r r′ h k = h ∙ sym k

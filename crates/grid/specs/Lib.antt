@@ -1,6 +1,7 @@
--- The definitions of the grid (Grid), its theorems (GridLaws), worked examples (GridExamples), and the laws that the proofs cite (ReplyLaws, SignedLaws).
+-- The definitions of the grid (Grid), its theorems (GridLaws), what its answers say (Told, ToldLaws), and the laws that the proofs cite (ReplyLaws, SignedLaws).
 pub mod Grid
 pub mod GridLaws
-pub mod GridExamples
 pub mod ReplyLaws
 pub mod SignedLaws
+pub mod Told
+pub mod ToldLaws

@@ -164,14 +164,15 @@ fn block_at(slots: u16, twice: i64, m: u16) -> BlockReply
     })
 }
 
-fn width_allowed(slots: u16, width: u16) -> bool
+// A width is 1 to the slot count.
+pub fn width_allowed(slots: u16, width: u16) -> bool
     ensures { λ r. ⌜ r ≡ allowedWidth slots width ⌝ }
 {
     if 1 <= width { width <= slots } else { false }
 }
 
-// A start and a width may add up to more than the type holds; what the width leaves of the slots never does.
-fn end_within(slots: u16, start: u64, width: u16) -> bool
+// An end is at most the slot count. A start and a width may add up to more than the type holds; what the width leaves of the slots never does.
+pub fn end_within(slots: u16, start: u64, width: u16) -> bool
     ensures { λ r. ⌜ r ≡ endWithin slots start width ⌝ }
 {
     if width <= slots {
@@ -210,7 +211,7 @@ fn even_natural(twice: i64) -> bool
     twice % 2 == 0
 }
 
-// Halving is asked only of what is even and not negative: -1 and 1 would both give 0.
+// Halving is asked only of even numbers from 0 up: -1 and 1 would both give 0.
 fn half(twice: i64) -> u64
     requires { ⌜ evenNatural twice ≡ true ⌝ }
     ensures { λ r. ⌜ r ≡ halfOf twice ⌝ }

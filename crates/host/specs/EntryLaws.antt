@@ -1,12 +1,15 @@
 -- What a program in C may rely on: each call has one answer; it is the library's, with nothing lost; the refusal 0 is an answer; and a
 -- refusal leaves every lent buffer as it was.
-use Prim.Native.Nat.{ℕ, _≤_}
+use Prim.Native.Nat.{ℕ, _*_, _≤_}
+use mathlib.Core.Bool.{true, false}
 use mathlib.Core.List.{List}
 use mathlib.Core.Logic.{_≢_}
-use mathlib.Core.Path.{_≡_, refl, sym, ap, ap₂, _∙_}
+use mathlib.Core.Path.{_≡_, refl, sym, ap, _∙_}
 use native.Mathlib.Omega.{arith}
 use lib.ListN.{length}
+use lib.Dec.{eqb}
 use lib.IntN.{ℤ}
+use Rattle.theory.specs.TestLaws.{by-test}
 use Rattle.refusal.specs.declared.Refusal.{Refusal}
 use Rattle.refusal.specs.Refusal.{numberOf}
 use Rattle.refusal.specs.RefusalLaws.{same-refusal, some-number}
@@ -14,37 +17,65 @@ use Rattle.grid.specs.declared.FrequencyReply.{FrequencyReply}
 use Rattle.grid.specs.declared.FrequencyReply.the-variants as frequency-reply
 use Rattle.request.specs.declared.Checked.{Checked}
 use Rattle.request.specs.declared.Checked.the-variants as checked
-use Rattle.request.specs.View.{View}
-use Rattle.request.specs.Reading.{FileReading, refused, accepted, readFile, idents}
-use Rattle.request.specs.ReadingLaws.{by-check}
-use Rattle.placing.specs.Placing.{boundOf}
+use Rattle.request.specs.declared.Written.{Written}
+use Rattle.request.specs.declared.Written.the-variants.{Wrote}
+use Rattle.request.specs.View.{View, idents}
+use Rattle.request.specs.Check.{check}
+use Rattle.request.specs.SoundLaws.{check-sound}
+use Rattle.reading.specs.Reading.{FileReading, refused, accepted, readFile}
+use Rattle.request.specs.CheckLaws.{by-check}
+use Rattle.request.specs.RoundTrip.{Bytes}
+use Rattle.writing.specs.RoundTripLaws.{accepted-encodes}
+use Rattle.meeting.specs.declared.BoundReply.{BoundReply}
+use Rattle.meeting.specs.declared.BoundReply.the-variants as bound-reply
+use Rattle.meeting.specs.Bound.{boundOf}
+use Rattle.meeting.specs.Reply.{boundReply}
+use Rattle.meeting.specs.ReplyLaws.{bound-answered}
 use Rattle.search.specs.declared.Outcome.{Outcome}
 use Rattle.search.specs.declared.Outcome.the-variants.{Finished, NothingFits, Unfinished, UnfinishedEmpty}
-use Rattle.search.specs.declared.Answer.{Answer}
 use Rattle.search.specs.declared.SearchReply.{SearchReply}
 use Rattle.search.specs.declared.SearchReply.the-variants as search-reply
 use Rattle.search.specs.Reply as search
 use Rattle.plan.specs.declared.CheckReply.{CheckReply}
 use Rattle.plan.specs.declared.CheckReply.the-variants as check-reply
 use Rattle.plan.specs.CheckStarts.{startsReply}
-use Rattle.plan.specs.PlanReading as plan
+use Rattle.planfile.specs.PlanReading as plan
+use Rattle.planfile.specs.PlanReadingLaws.{plan-request-refused}
+use Rattle.columns.specs.Columns.{widths, hopCounts, routeLinks, linkEnds, checkDemandColumns, checkRouteColumns, demandReply, routeReply}
+use Rattle.columns.specs.ColumnsLaws.{demands-sound, demands-fit, demands-refused, demands-written, routes-fit, routes-refused, routes-written}
 use Rattle.host.specs.declared.LightplanRequest.{LightplanRequest}
+use Rattle.host.specs.declared.LightplanRoutes.{LightplanRoutes}
 use Rattle.host.specs.declared.LightplanAnswer.{LightplanAnswer}
 use Rattle.host.specs.declared.LightplanVerdict.{LightplanVerdict}
 use Rattle.host.specs.declared.LightplanFrequency.{LightplanFrequency}
-use Rattle.search.specs.Reply.{outcomeNumber, outcomeEnd}
-use Rattle.host.specs.Host.{requestRefused, requestTold, checkBuffers, requestAfter, requestEntry, identsAfter, widthsAfter, widths, answerRefused, searchTold, answerEntry, startsSearched, orderSearched, verdictRefused, checkTold, verdictEntry, startsRead, startsEntry, frequencyTold, frequencyEntry}
-use Rattle.host.specs.HostLaws.{room-enough, request-fits}
+use Rattle.search.specs.Reply.{outcomeNumber}
+use Rattle.host.specs.Host.{version, requestRefused, requestTold, requestAfter, requestEntry, identsRead, widthsRead, routesRefused, routesTold, routesEntry, endsRead, hopsRead, routesRead, answerRefused, searchTold, answerEntry, startsSearched, orderSearched, verdictRefused, whichOf, checkTold, verdictEntry, startsRead, startsEntry, frequencyTold, frequencyEntry}
+use Rattle.lent.specs.Lent.{unlessRefused, over, writeAnswer}
+use Rattle.lent.specs.LentLaws.{room-enough}
+use Rattle.search.specs.ReplyLaws.{same-outcome, same-numbers}
 
 -- ---- one answer
 
+-- two results of `lightplan_version` are equal
+pub same-version : (r r′ : ℕ) → r ≡ version → r′ ≡ version → r ≡ r′
+same-version r r′ h h′ = h ∙ sym h′
+
 -- two results of `lightplan_read` are equal
-pub same-request : (file identsBefore widthsBefore : List ℕ) (r r′ : LightplanRequest) (i i′ w w′ : List ℕ) →
-    r ≡ requestEntry (readFile file) (length identsBefore) (length widthsBefore) → r′ ≡ requestEntry (readFile file) (length identsBefore) (length widthsBefore) →
-    i ≡ identsAfter (readFile file) identsBefore widthsBefore → i′ ≡ identsAfter (readFile file) identsBefore widthsBefore →
-    w ≡ widthsAfter (readFile file) identsBefore widthsBefore → w′ ≡ widthsAfter (readFile file) identsBefore widthsBefore →
+pub same-request : (file idents widths : List ℕ) (r r′ : LightplanRequest) (i i′ w w′ : List ℕ) →
+    r ≡ requestEntry (readFile file) (length idents) (length widths) → r′ ≡ requestEntry (readFile file) (length idents) (length widths) →
+    i ≡ identsRead (readFile file) idents widths → i′ ≡ identsRead (readFile file) idents widths →
+    w ≡ widthsRead (readFile file) idents widths → w′ ≡ widthsRead (readFile file) idents widths →
     (r ≡ r′) × (i ≡ i′) × (w ≡ w′)
-same-request file identsBefore widthsBefore r r′ i i′ w w′ hr hr′ hi hi′ hw hw′ = (hr ∙ sym hr′, hi ∙ sym hi′, hw ∙ sym hw′)
+same-request file idents widths r r′ i i′ w w′ hr hr′ hi hi′ hw hw′ = (hr ∙ sym hr′, hi ∙ sym hi′, hw ∙ sym hw′)
+
+-- two results of `lightplan_read_routes` are equal
+pub same-routes : (file ends hops routes : List ℕ) (r r′ : LightplanRoutes) (e e′ h h′ t t′ : List ℕ) →
+    r ≡ routesEntry (readFile file) (length ends) (length hops) (length routes) → r′ ≡ routesEntry (readFile file) (length ends) (length hops) (length routes) →
+    e ≡ endsRead (readFile file) ends hops routes → e′ ≡ endsRead (readFile file) ends hops routes →
+    h ≡ hopsRead (readFile file) ends hops routes → h′ ≡ hopsRead (readFile file) ends hops routes →
+    t ≡ routesRead (readFile file) ends hops routes → t′ ≡ routesRead (readFile file) ends hops routes →
+    (r ≡ r′) × (e ≡ e′) × (h ≡ h′) × (t ≡ t′)
+same-routes file ends hops routes r r′ e e′ h h′ t t′ hr hr′ he he′ hh hh′ ht ht′ = (hr ∙ sym hr′, he ∙ sym he′, hh ∙ sym hh′, ht ∙ sym ht′)
 
 -- two results of `lightplan_search` are equal
 pub same-answer : (file : List ℕ) (limit : ℕ) (starts order : List ℕ) (r r′ : LightplanAnswer) (s s′ o o′ : List ℕ) →
@@ -76,28 +107,68 @@ module _ (file : List ℕ) (why : Refusal) (read : readFile file ≡ refused why
   unfolding requestEntry
   read-refused a b = ap (λ (r : FileReading). requestEntry r a b) read
 
+  pub read-routes-refused : (a b c : ℕ) → routesEntry (readFile file) a b c ≡ routesRefused why
+  unfolding routesEntry
+  read-routes-refused a b c = ap (λ (r : FileReading). routesEntry r a b c) read
+
   pub search-refused : (limit a b : ℕ) → answerEntry (readFile file) limit a b ≡ answerRefused why
   unfolding answerEntry
   search-refused limit a b = ap (λ (r : FileReading). answerEntry r limit a b) read
 
-  pub check-refused : (plan : List ℕ) (room : ℕ) → verdictEntry (readFile file) plan room ≡ verdictRefused why
+  pub check-refused : (plan : List ℕ) (room : ℕ) → verdictEntry (readFile file) plan room ≡ verdictRefused 1 why
   unfolding verdictEntry
   check-refused plan room = ap (λ (r : FileReading). verdictEntry r plan room) read
 
-  pub check-starts-refused : (starts : List ℕ) → startsEntry (readFile file) starts ≡ verdictRefused why
+  pub check-starts-refused : (starts : List ℕ) → startsEntry (readFile file) starts ≡ verdictRefused 1 why
   unfolding startsEntry
   check-starts-refused starts = ap (λ (r : FileReading). startsEntry r starts) read
 
 -- a file of a request: what the library's call answers for that request, and the buffers as it leaves them
-module _ (file : List ℕ) (v : View) (read : readFile file ≡ accepted v) where
-  pub read-answers : (identsBefore widthsBefore : List ℕ) → v .demandCount ≤ length identsBefore → v .demandCount ≤ length widthsBefore →
-      (requestEntry (readFile file) (length identsBefore) (length widthsBefore) ≡ requestTold v) ×
-      (identsAfter (readFile file) identsBefore widthsBefore ≡ search.over (idents (v .demands)) identsBefore) ×
-      (widthsAfter (readFile file) identsBefore widthsBefore ≡ search.over (widths (v .demands)) widthsBefore)
-  read-answers identsBefore widthsBefore h k =
-      let room = room-enough (v .demandCount) (length identsBefore) (length widthsBefore) h k in
-      let told = request-fits (readFile file) v identsBefore widthsBefore read room in
-      (sym (told .0), sym (told .1 .0), sym (told .1 .1))
+module _ (file : List ℕ) (v : View) (bytes : Bytes file) (read : readFile file ≡ accepted v) where
+  -- the request is sound, and keeps its limits
+  sound : check v ≡ checked.Sound
+  sound = accepted-encodes file v bytes read .sound
+
+  links-there : length (v .links) ≡ v .linkCount
+  links-there = let parts = accepted-encodes file v bytes read in parts .counted .links-counted (check-sound v (parts .counted) sound .at-most-64-links)
+
+  demands-there : length (v .demands) ≡ v .demandCount
+  demands-there = let parts = accepted-encodes file v bytes read in parts .counted .demands-counted (check-sound v (parts .counted) sound .at-most-200-demands)
+
+  -- so its bound is answered
+  bounded : boundReply v ≡ bound-reply.Bound (boundOf v)
+  bounded = sym (bound-answered v (boundOf v) sound refl)
+
+  -- with room in both buffers: the request with its bound, its idents and its widths
+  pub read-answers : (i w : List ℕ) → v .demandCount ≤ length i → v .demandCount ≤ length w →
+      (requestEntry (readFile file) (length i) (length w) ≡ requestTold (bound-reply.Bound (boundOf v)) v) ×
+      (identsRead (readFile file) i w ≡ over (idents (v .demands)) i) ×
+      (widthsRead (readFile file) i w ≡ over (widths (v .demands)) w)
+  unfolding requestEntry requestAfter identsRead widthsRead
+  read-answers i w h k =
+      let enough = demands-fit v (length i) (length w) (v .demandCount) sound demands-there checked.Sound (sym (room-enough _ _ h)) (sym (room-enough _ _ k)) in
+      let told = demands-written v i w enough in (
+        ap (λ (r : FileReading). requestEntry r (length i) (length w)) read
+            ∙ (ap (λ (a : Written). requestAfter a v) (sym (told .0)) ∙ ap (λ (b : BoundReply). requestTold b v) bounded),
+        ap (λ (r : FileReading). identsRead r i w) read ∙ sym (told .1 .0),
+        ap (λ (r : FileReading). widthsRead r i w) read ∙ sym (told .1 .1),
+      )
+
+  -- with room in all three buffers: how many links, demands and links of routes there are, and the three columns
+  pub read-routes-answers : (e h r : List ℕ) → 2 * v .linkCount ≤ length e → v .demandCount ≤ length h → length (routeLinks (v .demands)) ≤ length r →
+      (routesEntry (readFile file) (length e) (length h) (length r) ≡ routesTold (Wrote (length (routeLinks (v .demands)))) v) ×
+      (endsRead (readFile file) e h r ≡ over (linkEnds (v .links)) e) ×
+      (hopsRead (readFile file) e h r ≡ over (hopCounts (v .demands)) h) ×
+      (routesRead (readFile file) e h r ≡ over (routeLinks (v .demands)) r)
+  unfolding routesEntry endsRead hopsRead routesRead
+  read-routes-answers e h r a b c =
+      let enough = routes-fit v (length e) (length h) (length r) (v .linkCount) (v .demandCount) (length (routeLinks (v .demands))) sound links-there demands-there refl checked.Sound (sym (room-enough _ _ a)) (sym (room-enough _ _ b)) (sym (room-enough _ _ c)) in
+      let told = routes-written v e h r enough in (
+        ap (λ (f : FileReading). routesEntry f (length e) (length h) (length r)) read ∙ ap (λ (x : Written). routesTold x v) (sym (told .0)),
+        ap (λ (f : FileReading). endsRead f e h r) read ∙ sym (told .1 .0),
+        ap (λ (f : FileReading). hopsRead f e h r) read ∙ sym (told .1 .1 .0),
+        ap (λ (f : FileReading). routesRead f e h r) read ∙ sym (told .1 .1 .1),
+      )
 
   pub search-answers : (limit : ℕ) (starts order : List ℕ) →
       (answerEntry (readFile file) limit (length starts) (length order) ≡ searchTold (search.searchReply v limit (length starts) (length order))) ×
@@ -111,46 +182,21 @@ module _ (file : List ℕ) (v : View) (read : readFile file ≡ accepted v) wher
   )
 
   pub check-answers : (file′ starts : List ℕ) →
-      (verdictEntry (readFile file) file′ (length starts) ≡ checkTold (plan.planReply v (plan.readPlanFile v file′ (length starts))) (boundOf v)) ×
-      (startsRead (readFile file) file′ starts ≡ plan.startsAfter (plan.readPlanFile v file′ (length starts)) starts)
+      (verdictEntry (readFile file) file′ (length starts) ≡ checkTold (bound-reply.Bound (boundOf v)) (plan.planReply v (plan.readPlanFile v file′ (length starts)))) ×
+      (startsRead (readFile file) file′ starts ≡ plan.planStarts (plan.readPlanFile v file′ (length starts)) starts)
   unfolding verdictEntry startsRead
   check-answers file′ starts = (
-    ap (λ (r : FileReading). verdictEntry r file′ (length starts)) read,
+    ap (λ (r : FileReading). verdictEntry r file′ (length starts)) read
+        ∙ ap (λ (b : BoundReply). checkTold b (plan.planReply v (plan.readPlanFile v file′ (length starts)))) bounded,
     ap (λ (r : FileReading). startsRead r file′ starts) read,
   )
 
-  pub check-starts-answers : (starts : List ℕ) → startsEntry (readFile file) starts ≡ checkTold (startsReply v starts) (boundOf v)
+  pub check-starts-answers : (starts : List ℕ) → startsEntry (readFile file) starts ≡ checkTold (bound-reply.Bound (boundOf v)) (startsReply v starts)
   unfolding startsEntry
-  check-starts-answers starts = ap (λ (r : FileReading). startsEntry r starts) read
+  check-starts-answers starts =
+      ap (λ (r : FileReading). startsEntry r starts) read ∙ ap (λ (b : BoundReply). checkTold b (startsReply v starts)) bounded
 
 -- ---- nothing is lost
-
--- an outcome is its number and its end
-same-outcome : (o o′ : Outcome) → outcomeNumber o ≡ outcomeNumber o′ → outcomeEnd o ≡ outcomeEnd o′ → o ≡ o′
-unfolding outcomeNumber outcomeEnd
-same-outcome (Finished e) (Finished e′) n end = ap Finished end
-same-outcome (Finished e) NothingFits n end = absurd (omega (arith, n))
-same-outcome (Finished e) (Unfinished e′) n end = absurd (omega (arith, n))
-same-outcome (Finished e) UnfinishedEmpty n end = absurd (omega (arith, n))
-same-outcome NothingFits (Finished e′) n end = absurd (omega (arith, n))
-same-outcome NothingFits NothingFits n end = refl
-same-outcome NothingFits (Unfinished e′) n end = absurd (omega (arith, n))
-same-outcome NothingFits UnfinishedEmpty n end = absurd (omega (arith, n))
-same-outcome (Unfinished e) (Finished e′) n end = absurd (omega (arith, n))
-same-outcome (Unfinished e) NothingFits n end = absurd (omega (arith, n))
-same-outcome (Unfinished e) (Unfinished e′) n end = ap Unfinished end
-same-outcome (Unfinished e) UnfinishedEmpty n end = absurd (omega (arith, n))
-same-outcome UnfinishedEmpty (Finished e′) n end = absurd (omega (arith, n))
-same-outcome UnfinishedEmpty NothingFits n end = absurd (omega (arith, n))
-same-outcome UnfinishedEmpty (Unfinished e′) n end = absurd (omega (arith, n))
-same-outcome UnfinishedEmpty UnfinishedEmpty n end = refl
-
--- two answers of the same numbers are equal
-same-numbers : (a a′ : Answer) → a .outcome ≡ a′ .outcome → a .bound ≡ a′ .bound → a .steps ≡ a′ .steps → a .reached ≡ a′ .reached → a .ruled ≡ a′ .ruled → a ≡ a′
-same-numbers a a′ ho hb hs hr hx =
-    ap (λ (o : Outcome). record { outcome = o; bound = a .bound; steps = a .steps; reached = a .reached; ruled = a .ruled }) ho
-    ∙ (ap₂ (λ (b s : ℕ). record { outcome = a′ .outcome; bound = b; steps = s; reached = a .reached; ruled = a .ruled }) hb hs
-    ∙ ap₂ (λ (r x : ℕ). record { outcome = a′ .outcome; bound = a′ .bound; steps = a′ .steps; reached = r; ruled = x }) hr hx)
 
 -- two replies of the search that a C program is told alike are equal
 pub search-told-whole : (r r′ : SearchReply) → searchTold r ≡ searchTold r′ → r ≡ r′
@@ -170,7 +216,7 @@ search-told-whole (search-reply.Refused why) (search-reply.Refused why′) h =
     (same-refusal why why′ (ap (λ (e : LightplanAnswer). e .refusal) h) (ap (λ (e : LightplanAnswer). e .place) h))
 
 -- and so are two replies of a check
-pub check-told-whole : (r r′ : CheckReply) (need : ℕ) → checkTold r need ≡ checkTold r′ need → r ≡ r′
+pub check-told-whole : (r r′ : CheckReply) (need : ℕ) → checkTold (bound-reply.Bound need) r ≡ checkTold (bound-reply.Bound need) r′ → r ≡ r′
 unfolding checkTold verdictRefused
 check-told-whole (check-reply.Accepted e) (check-reply.Accepted e′) need h =
     ap check-reply.Accepted (ap (λ (e : LightplanVerdict). e .end) h)
@@ -181,6 +227,34 @@ check-told-whole (check-reply.Refused why) (check-reply.Accepted e) need h =
 check-told-whole (check-reply.Refused why) (check-reply.Refused why′) need h =
     ap check-reply.Refused
     (same-refusal why why′ (ap (λ (e : LightplanVerdict). e .refusal) h) (ap (λ (e : LightplanVerdict). e .place) h))
+
+-- what was refused of a request file that is accepted is the plan, or the buffer, and never the request: that is told as 1 alone
+pub plan-told-apart : (r : CheckReply) (need : ℕ) → checkTold (bound-reply.Bound need) r .which ≢ 1
+unfolding checkTold verdictRefused whichOf
+plan-told-apart (check-reply.Accepted e) need h = absurd (omega (arith, h))
+plan-told-apart (check-reply.Refused why) need h =
+    by-test (eqb (numberOf why) 10)
+    (λ (ten : eqb (numberOf why) 10 ≡ true). let z : _≡_ {A = ℕ} 3 1 = rw ten at h in absurd (omega (arith, z)))
+    (λ (other : eqb (numberOf why) 10 ≡ false). let z : _≡_ {A = ℕ} 2 1 = rw other at h in absurd (omega (arith, z)))
+
+-- an outcome is never 0
+some-outcome : (o : Outcome) → 1 ≤ outcomeNumber o
+unfolding outcomeNumber
+some-outcome (Finished e) = omega arith
+some-outcome NothingFits = omega arith
+some-outcome (Unfinished e) = omega arith
+some-outcome UnfinishedEmpty = omega arith
+
+-- so an answer is told with one of the four, and a refusal with none: a struct of zeros tells of no outcome
+pub answer-has-outcome : (r : SearchReply) → searchTold r .refusal ≡ 0 → 1 ≤ searchTold r .outcome
+unfolding searchTold answerRefused
+answer-has-outcome (search-reply.Answered a) h = some-outcome (a .outcome)
+answer-has-outcome (search-reply.Refused why) h = absurd (omega (arith, h, some-number why))
+
+pub refusal-has-none : (r : SearchReply) → searchTold r .refusal ≢ 0 → searchTold r .outcome ≡ 0
+unfolding searchTold answerRefused
+refusal-has-none (search-reply.Answered a) h = absurd (h refl)
+refusal-has-none (search-reply.Refused why) h = refl
 
 -- and two replies of the grid
 pub frequency-told-whole : (r r′ : FrequencyReply) → frequencyTold r ≡ frequencyTold r′ → r ≡ r′
@@ -197,19 +271,40 @@ frequency-told-whole (frequency-reply.Refused why) (frequency-reply.Refused why�
 
 -- ---- a refusal leaves every lent buffer as it was
 
-pub read-refused-keeps : (read : FileReading) (identsBefore widthsBefore : List ℕ) → requestEntry read (length identsBefore) (length widthsBefore) .refusal ≢ 0 →
-    (identsAfter read identsBefore widthsBefore ≡ identsBefore) × (widthsAfter read identsBefore widthsBefore ≡ widthsBefore)
-unfolding requestEntry requestAfter requestTold identsAfter widthsAfter search.unlessRefused
-read-refused-keeps (refused why) identsBefore widthsBefore h = (refl, refl)
-read-refused-keeps (accepted v) identsBefore widthsBefore h =
-    let room = checkBuffers (v .demandCount) (length identsBefore) (length widthsBefore) in
-    by-check room
-    (λ (enough : room ≡ checked.Sound). absurd (h (ap (λ (c : Checked). requestAfter c v .refusal) enough)))
-    (λ (why : Refusal) (short : room ≡ checked.Refused why). rw short (refl, refl))
+-- a plan that is refused leaves the starts as they were
+plan-refused-keeps : (v : View) (starts : List ℕ) (read : plan.PlanReading) → checkTold (bound-reply.Bound (boundOf v)) (plan.planReply v read) .refusal ≢ 0 →
+    plan.planStarts read starts ≡ starts
+unfolding checkTold plan.planReply plan.planStarts
+plan-refused-keeps v starts (plan.refused why) h = refl
+plan-refused-keeps v starts (plan.accepted found) h = absurd (h refl)
+
+pub read-refused-keeps : (read : FileReading) (i w : List ℕ) → requestEntry read (length i) (length w) .refusal ≢ 0 →
+    (identsRead read i w ≡ i) × (widthsRead read i w ≡ w)
+unfolding requestEntry requestAfter requestTold identsRead widthsRead demandReply writeAnswer
+read-refused-keeps (refused why) i w h = (refl, refl)
+read-refused-keeps (accepted v) i w h =
+    let tests = checkDemandColumns v (length i) (length w) in
+    by-check tests
+    (λ (passed : tests ≡ checked.Sound).
+    let bounded : boundReply v ≡ bound-reply.Bound (boundOf v) = sym (bound-answered v (boundOf v) (demands-sound v (length i) (length w) passed) refl) in
+    absurd (h (ap (λ (c : Checked). requestAfter (writeAnswer c (v .demandCount)) v .refusal) passed ∙ ap (λ (b : BoundReply). requestTold b v .refusal) bounded)))
+    (λ (why : Refusal) (failed : tests ≡ checked.Refused why).
+    let kept = demands-refused v i w why failed in (sym (kept .1 .0), sym (kept .1 .1)))
+
+pub read-routes-refused-keeps : (read : FileReading) (e h r : List ℕ) → routesEntry read (length e) (length h) (length r) .refusal ≢ 0 →
+    (endsRead read e h r ≡ e) × (hopsRead read e h r ≡ h) × (routesRead read e h r ≡ r)
+unfolding routesEntry routesTold endsRead hopsRead routesRead routeReply writeAnswer
+read-routes-refused-keeps (refused why) e h r n = (refl, refl, refl)
+read-routes-refused-keeps (accepted v) e h r n =
+    let tests = checkRouteColumns v (length e) (length h) (length r) in
+    by-check tests
+    (λ (passed : tests ≡ checked.Sound). absurd (n (ap (λ (c : Checked). routesTold (writeAnswer c (length (routeLinks (v .demands)))) v .refusal) passed)))
+    (λ (why : Refusal) (failed : tests ≡ checked.Refused why).
+    let kept = routes-refused v e h r why failed in (sym (kept .1 .0), sym (kept .1 .1 .0), sym (kept .1 .1 .1)))
 
 pub search-refused-keeps : (read : FileReading) (limit : ℕ) (starts order : List ℕ) → answerEntry read limit (length starts) (length order) .refusal ≢ 0 →
     (startsSearched read limit starts order ≡ starts) × (orderSearched read limit starts order ≡ order)
-unfolding answerEntry searchTold startsSearched orderSearched search.searchReply search.replyTo search.startsAfter search.orderAfter search.unlessRefused
+unfolding answerEntry searchTold startsSearched orderSearched search.searchReply search.replyTo search.startsAfter search.orderAfter unlessRefused
 search-refused-keeps (refused why) limit starts order h = (refl, refl)
 search-refused-keeps (accepted v) limit starts order h =
     let tests = search.checkSearch v (length starts) (length order) in
@@ -218,10 +313,12 @@ search-refused-keeps (accepted v) limit starts order h =
     (λ (why : Refusal) (failed : tests ≡ checked.Refused why). rw failed (refl, refl))
 
 pub check-refused-keeps : (read : FileReading) (file starts : List ℕ) → verdictEntry read file (length starts) .refusal ≢ 0 → startsRead read file starts ≡ starts
-unfolding verdictEntry startsRead checkTold plan.planReply plan.startsAfter
+unfolding verdictEntry startsRead plan.planStarts
 check-refused-keeps (refused why) file starts h = refl
-check-refused-keeps (accepted v) file starts h = kept (plan.readPlanFile v file (length starts)) h
-  where
-    kept : (read : plan.PlanReading) → checkTold (plan.planReply v read) (boundOf v) .refusal ≢ 0 → plan.startsAfter read starts ≡ starts
-    kept (plan.refused why) h = refl
-    kept (plan.accepted found) h = absurd (h refl)
+check-refused-keeps (accepted v) file starts h =
+    by-check (check v)
+    (λ (passed : check v ≡ checked.Sound).
+    let bounded : bound-reply.Bound (boundOf v) ≡ boundReply v = bound-answered v (boundOf v) passed refl in
+    plan-refused-keeps v starts (plan.readPlanFile v file (length starts)) (rw (← bounded) at h))
+    (λ (why : Refusal) (failed : check v ≡ checked.Refused why).
+    ap (λ (read : plan.PlanReading). plan.planStarts read starts) (plan-request-refused v file (length starts) why failed))

@@ -1,23 +1,22 @@
 -- What the calls for C answer: structs of numbers, from how a request file reads; and what their lent buffers hold afterwards.
 use Prim.Native.Nat.{ℕ}
-use mathlib.Core.List.{List, map}
+use mathlib.Core.Bool.{cond}
+use mathlib.Core.List.{List}
 use lib.ListN.{length}
-use lib.Dec.{leb}
+use lib.Dec.{eqb}
 use lib.IntN.{ℤ, pos}
 use Rattle.refusal.specs.declared.Refusal.{Refusal}
-use Rattle.refusal.specs.declared.Refusal.the-variants.{BufferShort}
 use Rattle.refusal.specs.Refusal.{numberOf, placeOf}
 use Rattle.grid.specs.declared.FrequencyReply.{FrequencyReply}
 use Rattle.grid.specs.declared.FrequencyReply.the-variants as frequency-reply
 use Rattle.grid.specs.Grid.{frequencyReply}
-use Rattle.request.specs.declared.Checked.{Checked}
-use Rattle.request.specs.declared.Checked.the-variants as checked
-use Rattle.request.specs.View.{DemandView, View}
-use Rattle.request.specs.Check.{then}
-use Rattle.request.specs.Reading.{FileReading, refused, accepted, must, idents}
-use Rattle.placing.specs.Placing.{boundOf}
-use Rattle.search.specs.declared.Outcome.{Outcome}
-use Rattle.search.specs.declared.Outcome.the-variants.{Finished, NothingFits, Unfinished, UnfinishedEmpty}
+use Rattle.request.specs.declared.Written.{Written}
+use Rattle.request.specs.declared.Written.the-variants.{Wrote, Refused as Unwritten}
+use Rattle.request.specs.View.{View}
+use Rattle.reading.specs.Reading.{FileReading, refused, accepted}
+use Rattle.meeting.specs.declared.BoundReply.{BoundReply}
+use Rattle.meeting.specs.declared.BoundReply.the-variants as bound-reply
+use Rattle.meeting.specs.Reply.{boundReply}
 use Rattle.search.specs.declared.SearchReply.{SearchReply}
 use Rattle.search.specs.declared.SearchReply.the-variants as search-reply
 use Rattle.search.specs.Reply as search
@@ -25,11 +24,17 @@ use Rattle.search.specs.Reply.{outcomeNumber, outcomeEnd}
 use Rattle.plan.specs.declared.CheckReply.{CheckReply}
 use Rattle.plan.specs.declared.CheckReply.the-variants as check-reply
 use Rattle.plan.specs.CheckStarts.{startsReply}
-use Rattle.plan.specs.PlanReading as plan
+use Rattle.planfile.specs.PlanReading as plan
+use Rattle.columns.specs.Columns.{demandReply, routeReply, identsAfter, widthsAfter, endsAfter, hopsAfter, routesAfter}
 use Rattle.host.specs.declared.LightplanRequest.{LightplanRequest}
+use Rattle.host.specs.declared.LightplanRoutes.{LightplanRoutes}
 use Rattle.host.specs.declared.LightplanAnswer.{LightplanAnswer}
 use Rattle.host.specs.declared.LightplanVerdict.{LightplanVerdict}
 use Rattle.host.specs.declared.LightplanFrequency.{LightplanFrequency}
+
+-- the version of the calls: 1 had five calls and outcomes from 0 on
+unfoldable pub version : ℕ
+version = 2
 
 -- ---- a request file read
 
@@ -38,9 +43,10 @@ unfoldable pub requestRefused : Refusal → LightplanRequest
 requestRefused why =
     record { refusal = numberOf why; place = placeOf why; n0 = pos 0; slots = 0; guard = 0; links = 0; demands = 0; bound = 0 }
 
--- a request: 0 at place 0, its band, how many links and demands it has, and its bound
-unfoldable pub requestTold : View → LightplanRequest
-requestTold v =
+-- a request and the reply for its bound: 0 at place 0, its band, how many links and demands it has, and the bound; or the refusal
+unfoldable pub requestTold : BoundReply → View → LightplanRequest
+unfolding requestRefused
+requestTold (bound-reply.Bound need) v =
     record {
       refusal = 0;
       place = 0;
@@ -49,46 +55,64 @@ requestTold v =
       guard = v .band .guard;
       links = v .linkCount;
       demands = v .demandCount;
-      bound = boundOf v;
+      bound = need;
     }
+requestTold (bound-reply.Refused why) v = requestRefused why
 
--- the widths of some demands
-unfoldable pub widths : List DemandView → List ℕ
-widths demands = map (λ (d : DemandView). d .width) demands
-
--- 10 at K for the idents, then for the widths
-unfoldable pub checkBuffers : ℕ → ℕ → ℕ → Checked
-unfolding then must
-checkBuffers K identsRoom widthsRoom =
-    then (must (leb K identsRoom) (BufferShort K)) (must (leb K widthsRoom) (BufferShort K))
-
--- a check, and where it passes the request
-unfoldable pub requestAfter : Checked → View → LightplanRequest
+-- after the columns of idents and widths: the request, or why they were not written
+unfoldable pub requestAfter : Written → View → LightplanRequest
 unfolding requestRefused requestTold
-requestAfter checked.Sound v = requestTold v
-requestAfter (checked.Refused why) v = requestRefused why
+requestAfter (Wrote count) v = requestTold (boundReply v) v
+requestAfter (Unwritten why) v = requestRefused why
 
 -- the answer for a file and buffers of these lengths: the reader's refusal, 10, or the request
 unfoldable pub requestEntry : FileReading → ℕ → ℕ → LightplanRequest
-unfolding requestRefused checkBuffers requestAfter
+unfolding requestRefused requestAfter
 requestEntry (refused why) identsRoom widthsRoom = requestRefused why
-requestEntry (accepted v) identsRoom widthsRoom = requestAfter (checkBuffers (v .demandCount) identsRoom widthsRoom) v
+requestEntry (accepted v) identsRoom widthsRoom = requestAfter (demandReply v identsRoom widthsRoom) v
 
--- the buffer of idents afterwards: each demand's by listing position, the rest as it was; all as it was where refused
-unfoldable pub identsAfter : FileReading → List ℕ → List ℕ → List ℕ
-unfolding checkBuffers idents
-identsAfter (refused why) identsBefore widthsBefore = identsBefore
-identsAfter (accepted v) identsBefore widthsBefore =
-    search.unlessRefused (checkBuffers (v .demandCount) (length identsBefore) (length widthsBefore)) identsBefore
-    (search.over (idents (v .demands)) identsBefore)
+-- the buffer of idents afterwards: as the columns leave it, as it was where the file is refused
+unfoldable pub identsRead : FileReading → List ℕ → List ℕ → List ℕ
+identsRead (refused why) idents widths = idents
+identsRead (accepted v) idents widths = identsAfter v idents widths
 
 -- the buffer of widths afterwards, alike
-unfoldable pub widthsAfter : FileReading → List ℕ → List ℕ → List ℕ
-unfolding checkBuffers widths
-widthsAfter (refused why) identsBefore widthsBefore = widthsBefore
-widthsAfter (accepted v) identsBefore widthsBefore =
-    search.unlessRefused (checkBuffers (v .demandCount) (length identsBefore) (length widthsBefore)) widthsBefore
-    (search.over (widths (v .demands)) widthsBefore)
+unfoldable pub widthsRead : FileReading → List ℕ → List ℕ → List ℕ
+widthsRead (refused why) idents widths = widths
+widthsRead (accepted v) idents widths = widthsAfter v idents widths
+
+-- ---- the links and the routes of a request file
+
+-- a refusal: its number and its place, all else 0
+unfoldable pub routesRefused : Refusal → LightplanRoutes
+routesRefused why = record { refusal = numberOf why; place = placeOf why; links = 0; demands = 0; hops = 0 }
+
+-- after their columns: 0 at place 0, how many links, demands and links of routes there are; or why they were not written
+unfoldable pub routesTold : Written → View → LightplanRoutes
+unfolding routesRefused
+routesTold (Wrote total) v = record { refusal = 0; place = 0; links = v .linkCount; demands = v .demandCount; hops = total }
+routesTold (Unwritten why) v = routesRefused why
+
+-- the answer for a file and buffers of these lengths: the reader's refusal, 10, or the three counts
+unfoldable pub routesEntry : FileReading → ℕ → ℕ → ℕ → LightplanRoutes
+unfolding routesRefused routesTold
+routesEntry (refused why) endsRoom hopsRoom routesRoom = routesRefused why
+routesEntry (accepted v) endsRoom hopsRoom routesRoom = routesTold (routeReply v endsRoom hopsRoom routesRoom) v
+
+-- the buffer of the links' nodes afterwards: as the columns leave it, as it was where the file is refused
+unfoldable pub endsRead : FileReading → List ℕ → List ℕ → List ℕ → List ℕ
+endsRead (refused why) ends hops routes = ends
+endsRead (accepted v) ends hops routes = endsAfter v ends hops routes
+
+-- the buffer of how many links each route has, alike
+unfoldable pub hopsRead : FileReading → List ℕ → List ℕ → List ℕ → List ℕ
+hopsRead (refused why) ends hops routes = hops
+hopsRead (accepted v) ends hops routes = hopsAfter v ends hops routes
+
+-- and the buffer of the routes
+unfoldable pub routesRead : FileReading → List ℕ → List ℕ → List ℕ → List ℕ
+routesRead (refused why) ends hops routes = routes
+routesRead (accepted v) ends hops routes = routesAfter v ends hops routes
 
 -- ---- a request file searched
 
@@ -131,32 +155,38 @@ orderSearched (accepted v) limit starts order = search.orderAfter v limit starts
 
 -- ---- a plan checked against a request file
 
--- a refusal: its number and its place, all else 0
-unfoldable pub verdictRefused : Refusal → LightplanVerdict
-verdictRefused why = record { refusal = numberOf why; place = placeOf why; end = 0; bound = 0 }
+-- a refusal: its number and its place, what is refused, and all else 0
+unfoldable pub verdictRefused : ℕ → Refusal → LightplanVerdict
+verdictRefused which why = record { refusal = numberOf why; place = placeOf why; which = which; end = 0; bound = 0 }
 
--- a reply of a check beside the request's bound: 0 at place 0, the plan's end and the bound, or the refusal
-unfoldable pub checkTold : CheckReply → ℕ → LightplanVerdict
-unfolding verdictRefused
-checkTold (check-reply.Accepted e) need = record { refusal = 0; place = 0; end = e; bound = need }
-checkTold (check-reply.Refused why) need = verdictRefused why
+-- what a check refuses: the plan, 2; where the number is 10 the buffer for its starts, 3
+unfoldable pub whichOf : Refusal → ℕ
+whichOf why = cond (eqb (numberOf why) 10) 3 2
+
+-- the reply for the bound and that of a check: 0 at place 0, 0 for nothing refused, the plan's end and the bound; or the refusal, with
+-- 1 for a request that has no bound
+unfoldable pub checkTold : BoundReply → CheckReply → LightplanVerdict
+unfolding verdictRefused whichOf
+checkTold (bound-reply.Refused why) reply = verdictRefused 1 why
+checkTold (bound-reply.Bound need) (check-reply.Accepted e) = record { refusal = 0; place = 0; which = 0; end = e; bound = need }
+checkTold (bound-reply.Bound need) (check-reply.Refused why) = verdictRefused (whichOf why) why
 
 -- the answer for a file, a plan file, and a buffer of this length: the reader's refusal, or the plan reader's reply
 unfoldable pub verdictEntry : FileReading → List ℕ → ℕ → LightplanVerdict
 unfolding verdictRefused checkTold
-verdictEntry (refused why) file room = verdictRefused why
-verdictEntry (accepted v) file room = checkTold (plan.planReply v (plan.readPlanFile v file room)) (boundOf v)
+verdictEntry (refused why) file room = verdictRefused 1 why
+verdictEntry (accepted v) file room = checkTold (boundReply v) (plan.planReply v (plan.readPlanFile v file room))
 
 -- the buffer of starts afterwards: as the plan reader leaves it, as it was where the request file is refused
 unfoldable pub startsRead : FileReading → List ℕ → List ℕ → List ℕ
 startsRead (refused why) file starts = starts
-startsRead (accepted v) file starts = plan.startsAfter (plan.readPlanFile v file (length starts)) starts
+startsRead (accepted v) file starts = plan.planStarts (plan.readPlanFile v file (length starts)) starts
 
 -- the answer for a file and starts in memory: the reader's refusal, or the reply of the check
 unfoldable pub startsEntry : FileReading → List ℕ → LightplanVerdict
 unfolding verdictRefused checkTold
-startsEntry (refused why) starts = verdictRefused why
-startsEntry (accepted v) starts = checkTold (startsReply v starts) (boundOf v)
+startsEntry (refused why) starts = verdictRefused 1 why
+startsEntry (accepted v) starts = checkTold (boundReply v) (startsReply v starts)
 
 -- ---- a block's frequency
 

@@ -1,28 +1,32 @@
--- Laws of the calls for C: what their code cites.
-use Prim.Native.Nat.{ℕ, _+_, _≤_, _<_}
-use mathlib.Core.List.{List, map}
+-- Laws of the calls for C, as their code cites them: how a file reads, and what a check refuses.
+use Prim.Native.Nat.{ℕ}
+use mathlib.Core.Bool.{Bool, cond, true, false}
+use mathlib.Core.List.{List}
+use mathlib.Core.Logic.{_≢_}
 use mathlib.Core.Path.{_≡_, refl, sym, ap, _∙_}
 use native.Mathlib.Omega.{arith}
-use lib.ListN.{length, take, set, length-map}
-use lib.Seq.{take-all}
+use borrow.Author.Tests.{eq-eqb, ne-eqb}
 use Rattle.refusal.specs.declared.Refusal.{Refusal}
-use Rattle.refusal.specs.declared.Refusal.the-variants.{BufferShort}
+use Rattle.refusal.specs.Refusal.{numberOf}
 use Rattle.request.specs.declared.Checked.the-variants.{Sound, Refused}
-use Rattle.request.specs.declared.Reading.{Reading}
-use Rattle.request.specs.View.{DemandView, View, view, demandAt, noDemand}
-use Rattle.request.specs.Check.{then}
-use Rattle.request.specs.SoundLaws.{check-sound}
-use Rattle.request.specs.Reading.{FileReading, refused, accepted, must, readFile, idents}
-use Rattle.request.specs.Packing.{packReading}
+use Rattle.reading.specs.declared.Reading.{Reading}
+use Rattle.request.specs.View.{view}
+use Rattle.reading.specs.Reading.{FileReading, refused, accepted, readFile}
+use Rattle.reading.specs.FilePacking.{packReading}
 use Rattle.request.specs.RoundTrip.{Bytes}
-use Rattle.request.specs.RoundTripLaws.{accepted-encodes, read-seen}
-use Rattle.placing.specs.ViewLaws.{map-at}
-use Rattle.search.specs.Reply as search
-use Rattle.search.specs.Reply.{over}
-use Rattle.search.specs.ReplyLaws.{over-more}
-use borrow.Author.Tests.{le-leb, lt-leb}
-use Rattle.host.specs.Held.{Held}
-use Rattle.host.specs.Host.{requestRefused, requestTold, checkBuffers, requestAfter, requestEntry, identsAfter, widthsAfter, widths}
+use Rattle.writing.specs.RoundTripLaws.{read-seen}
+use Rattle.host.specs.Host.{verdictRefused, whichOf}
+use lib.IntN.{ℤ}
+use Rattle.refusal.specs.declared.Refusal.the-variants.{BandOutside}
+use Rattle.theory.specs.TestLaws.{by-test}
+use Rattle.grid.specs.declared.Band.{Band}
+use Rattle.grid.specs.declared.BandReply.the-variants as band-reply
+use Rattle.grid.specs.declared.FrequencyReply.the-variants as frequency-reply
+use Rattle.grid.specs.Grid.{allowedBand, bandReply, frequencyReply}
+use Rattle.grid.specs.ReplyLaws.{band-allowed, band-outside, frequency-outside}
+use lib.ListN.{getD}
+use mir.Syntax.{w8}
+use mir.Val.{Fits}
 
 -- ---- how a file reads
 
@@ -37,6 +41,10 @@ pub file-refused : (file : List ℕ) (reading : Reading) (why : Refusal) → rea
 file-refused file reading why read told =
     refused-reading (readFile file) why (sym (ap (λ (r : Reading). r .verdict) read) ∙ told)
 
+-- a file that is lent is of bytes
+pub bytes-known : (s : List ℕ) → ((at : ℕ) → Fits w8 (getD s at 0)) → Bytes s
+bytes-known s known = record { each = λ (at : ℕ). omega (arith, known at) }
+
 -- a reading that is sound is of a file that is accepted as the request read
 sound-reading : (file : List ℕ) (read : FileReading) → Bytes file → readFile file ≡ read → packReading read .verdict ≡ Sound →
     readFile file ≡ accepted (view (packReading (readFile file) .request))
@@ -44,63 +52,44 @@ unfolding packReading
 sound-reading file (refused why) bytes same h = absurd (let z : _≡_ {A = ℕ} 0 1 = cc in omega arith)
 sound-reading file (accepted v) bytes same h = same ∙ ap accepted (sym (read-seen file v bytes same))
 
-pub file-held : (file : List ℕ) (reading : Reading) → Bytes file → reading ≡ packReading (readFile file) → reading .verdict ≡ Sound → Held file (reading .request)
-unfolding view
-file-held file reading bytes read told =
-    let v = view (reading .request) in
-    let accepts : readFile file ≡ accepted v
-    = sound-reading file (readFile file) bytes refl (sym (ap (λ (r : Reading). r .verdict) read) ∙ told)
-    ∙ ap (λ (r : Reading). accepted (view (r .request))) (sym read) in
-    let parts = accepted-encodes file v bytes accepts in
-    record { read = accepts; sound = parts .sound; few = check-sound v (parts .counted) (parts .sound) .at-most-200-demands }
+pub file-accepted : (file : List ℕ) (reading : Reading) → Bytes file → reading ≡ packReading (readFile file) → reading .verdict ≡ Sound →
+    readFile file ≡ accepted (view (reading .request))
+file-accepted file reading bytes read told =
+    sound-reading file (readFile file) bytes refl (sym (ap (λ (r : Reading). r .verdict) read) ∙ told)
+    ∙ ap (λ (r : Reading). accepted (view (r .request))) (sym read)
 
--- ---- a column of the demands, written to a buffer
+-- ---- what a check refuses
 
-module _ (f : DemandView → ℕ) (demands : List DemandView) (buffer : List ℕ) where
-  -- one demand more
-  pub column-more : (k : ℕ) → k < length demands → k < length buffer →
-      set (over (take k (map f demands)) buffer) k (f (demandAt demands k)) ≡ over (take (k + 1) (map f demands)) buffer
-  unfolding demandAt
-  column-more k h room =
-      ap (λ (x : ℕ). set (over (take k (map f demands)) buffer) k x) (sym (map-at f demands k noDemand 0 h))
-      ∙ over-more (map f demands) buffer k (omega (arith, length-map demands f)) room
+-- 10 is of the buffer, and any other number of the plan
+pub of-buffer : (why : Refusal) (number : ℕ) → number ≡ numberOf why → number ≡ 10 → verdictRefused 3 why ≡ verdictRefused (whichOf why) why
+unfolding whichOf
+of-buffer why number same h = ap (λ (b : Bool). verdictRefused (cond b 3 2) why) (sym (eq-eqb (numberOf why) 10 (sym same ∙ h)))
 
-  -- all of them
-  pub column-all : (k : ℕ) → length demands ≤ k → over (take k (map f demands)) buffer ≡ over (map f demands) buffer
-  column-all k h = ap (λ (l : List ℕ). over l buffer) (take-all k (map f demands) (omega (arith, length-map demands f)))
+pub of-plan : (why : Refusal) (number : ℕ) → number ≡ numberOf why → number ≢ 10 → verdictRefused 2 why ≡ verdictRefused (whichOf why) why
+unfolding whichOf
+of-plan why number same h = ap (λ (b : Bool). verdictRefused (cond b 3 2) why) (sym (ne-eqb (numberOf why) 10 (λ (e : numberOf why ≡ 10). h (same ∙ e))))
 
--- ---- the room for idents and widths
+-- ---- the band of a frequency
 
-module _ (K a b : ℕ) where
-  -- too short a buffer for the idents
-  pub room-idents : a < K → checkBuffers K a b ≡ Refused (BufferShort K)
-  unfolding checkBuffers then must
-  room-idents h = rw (lt-leb K a h)
+-- a band that was made is that of its numbers
+pub band-made : (n0 : ℤ) (S G : ℕ) (band : Band) → band-reply.Allowed band ≡ bandReply n0 S G → band ≡ record { n0 = n0; slots = S; guard = G }
+band-made n0 S G band e =
+    by-test (allowedBand (record { n0 = n0; slots = S; guard = G }))
+    (λ (yes : allowedBand (record { n0 = n0; slots = S; guard = G }) ≡ true).
+    let same : band-reply.Allowed band ≡ band-reply.Allowed (record { n0 = n0; slots = S; guard = G }) = e ∙ band-allowed n0 S G yes in cc)
+    (λ (no : allowedBand (record { n0 = n0; slots = S; guard = G }) ≡ false).
+    let other : band-reply.Allowed band ≡ band-reply.Refused (BandOutside 0) = e ∙ band-outside n0 S G no in
+    absurd (let z : _≡_ {A = ℕ} 0 1 = cc in omega arith))
 
-  -- too short a buffer for the widths
-  pub room-widths : K ≤ a → b < K → checkBuffers K a b ≡ Refused (BufferShort K)
-  unfolding checkBuffers then must
-  room-widths h k = rw (le-leb K a h, lt-leb K b k)
-
-  -- room enough
-  pub room-enough : K ≤ a → K ≤ b → checkBuffers K a b ≡ Sound
-  unfolding checkBuffers then must
-  room-enough h k = rw (le-leb K a h, le-leb K b k)
-
--- ---- a request file read
-
-module _ (read : FileReading) (v : View) (identsBefore widthsBefore : List ℕ) (file : read ≡ accepted v) where
-  -- a buffer is too short: the refusal, and both buffers as they were
-  pub request-short : (why : Refusal) → checkBuffers (v .demandCount) (length identsBefore) (length widthsBefore) ≡ Refused why →
-      (requestRefused why ≡ requestEntry read (length identsBefore) (length widthsBefore)) ×
-      ((identsBefore ≡ identsAfter read identsBefore widthsBefore) × (widthsBefore ≡ widthsAfter read identsBefore widthsBefore))
-  unfolding requestEntry requestAfter identsAfter widthsAfter search.unlessRefused
-  request-short why short = rw (file, short) (refl, (refl, refl))
-
-  -- both are long enough: the request, and its idents and widths in them
-  pub request-fits : checkBuffers (v .demandCount) (length identsBefore) (length widthsBefore) ≡ Sound →
-      (requestTold v ≡ requestEntry read (length identsBefore) (length widthsBefore)) ×
-      ((over (idents (v .demands)) identsBefore ≡ identsAfter read identsBefore widthsBefore) ×
-      (over (widths (v .demands)) widthsBefore ≡ widthsAfter read identsBefore widthsBefore))
-  unfolding requestEntry requestAfter identsAfter widthsAfter search.unlessRefused
-  request-fits fit = rw (file, fit) (refl, (refl, refl))
+-- numbers that make no band have no frequency either
+pub band-unmade : (n0 : ℤ) (S G s w : ℕ) (why : Refusal) → band-reply.Refused why ≡ bandReply n0 S G →
+    frequency-reply.Refused why ≡ frequencyReply (record { n0 = n0; slots = S; guard = G }) s w
+band-unmade n0 S G s w why e =
+    by-test (allowedBand (record { n0 = n0; slots = S; guard = G }))
+    (λ (yes : allowedBand (record { n0 = n0; slots = S; guard = G }) ≡ true).
+    let other : band-reply.Refused why ≡ band-reply.Allowed (record { n0 = n0; slots = S; guard = G }) = e ∙ band-allowed n0 S G yes in
+    absurd (let z : _≡_ {A = ℕ} 0 1 = cc in omega arith))
+    (λ (no : allowedBand (record { n0 = n0; slots = S; guard = G }) ≡ false).
+    let same : band-reply.Refused why ≡ band-reply.Refused (BandOutside 0) = e ∙ band-outside n0 S G no in
+    let fault : why ≡ BandOutside 0 = cc in
+    ap frequency-reply.Refused fault ∙ sym (frequency-outside (record { n0 = n0; slots = S; guard = G }) s w no))

@@ -1,5 +1,6 @@
 -- What the calls for C answer, and their laws.
 pub mod Host
-pub mod Held
+pub mod FileTold
 pub mod HostLaws
 pub mod EntryLaws
+pub mod ToldLaws

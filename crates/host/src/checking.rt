@@ -1,15 +1,16 @@
 // Plans checked against a request file, for programs in C.
 use crate::LightplanVerdict;
-use crate::sound_bound;
+use meeting::BoundReply;
+use meeting::bound;
 use plan::CheckReply;
 use plan::check_starts;
-use plan::read_plan;
+use planfile::read_plan;
+use reading::read_request;
 use refusal::Refusal;
 use request::Checked;
-use request::read_request;
 ghost use mathlib.Core.Path.{_≡_};
 ghost use lib.ListN.{length};
-ghost use Rattle.request.specs.Reading.{readFile};
+ghost use Rattle.reading.specs.Reading.{readFile};
 ghost use Rattle.host.specs.Host.{verdictRefused, checkTold, verdictEntry, startsRead, startsEntry};
 
 // Checks the plan in a plan file against the request in a request file. `starts` gets the start of each demand by listing position.
@@ -23,11 +24,11 @@ pub extern "C" fn lightplan_check(file: &[u8], plan: &[u8], starts: &mut [u16]) 
     let verdict = reading.verdict;
     let request = reading.request;
     if let Checked::Refused(why) = verdict {
-        return verdict_refused(why);
+        return verdict_refused(1, why);
     }
-    let need = sound_bound(request);
+    let need = bound(request);
     let reply = read_plan(request, plan, starts);
-    check_told(reply, need)
+    check_told(need, reply)
 }
 
 // Checks starts by listing position against the request in a request file: the reader's refusals at their offsets come first, then
@@ -40,34 +41,45 @@ pub extern "C" fn lightplan_check_starts(file: &[u8], starts: &[u16]) -> Lightpl
     let verdict = reading.verdict;
     let request = reading.request;
     if let Checked::Refused(why) = verdict {
-        return verdict_refused(why);
+        return verdict_refused(1, why);
     }
-    let need = sound_bound(request);
+    let need = bound(request);
     let reply = check_starts(request, starts);
-    check_told(reply, need)
+    check_told(need, reply)
 }
 
-// The end of an accepted plan beside its request's bound, or the refusal.
-fn check_told(reply: CheckReply, need: u32) -> LightplanVerdict
-    ensures { λ r. ⌜ r ≡ checkTold reply need ⌝ }
+// The end of an accepted plan beside its request's bound; or the refusal, and of what: of the request, which then has no bound, of the
+// plan, or of the buffer for its starts.
+fn check_told(need: BoundReply, reply: CheckReply) -> LightplanVerdict
+    ensures { λ r. ⌜ r ≡ checkTold need reply ⌝ }
 {
-    match reply {
-        CheckReply::Accepted(end) => LightplanVerdict {
-            refusal: 0,
-            place: 0,
-            end,
-            bound: need,
+    match need {
+        BoundReply::Bound(least) => match reply {
+            CheckReply::Accepted(end) => LightplanVerdict {
+                refusal: 0,
+                place: 0,
+                which: 0,
+                end,
+                bound: least,
+            },
+            CheckReply::Refused(why) => {
+                if why.number() == 10 {
+                    return verdict_refused(3, why);
+                }
+                verdict_refused(2, why)
+            }
         },
-        CheckReply::Refused(why) => verdict_refused(why),
+        BoundReply::Refused(why) => verdict_refused(1, why),
     }
 }
 
-fn verdict_refused(why: Refusal) -> LightplanVerdict
-    ensures { λ r. ⌜ r ≡ verdictRefused why ⌝ }
+fn verdict_refused(which: u8, why: Refusal) -> LightplanVerdict
+    ensures { λ r. ⌜ r ≡ verdictRefused which why ⌝ }
 {
     LightplanVerdict {
         refusal: why.number(),
         place: why.place(),
+        which,
         end: 0,
         bound: 0,
     }

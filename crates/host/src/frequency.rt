@@ -1,6 +1,7 @@
 // A block's frequency, for programs in C.
 use crate::LightplanFrequency;
 use grid::Band;
+use grid::BandReply;
 use grid::FrequencyReply;
 use grid::to_frequency;
 ghost use mathlib.Core.Path.{_≡_};
@@ -17,7 +18,11 @@ pub extern "C" fn lightplan_frequency(
 ) -> LightplanFrequency
     ensures { λ r. ⌜ r ≡ frequencyEntry n0 slots guard start width ⌝ }
 {
-    frequency_told(to_frequency(Band { n0, slots, guard }, start, width))
+    let made = Band::new(n0, slots, guard);
+    match made {
+        BandReply::Allowed(band) => frequency_told(to_frequency(band, start, width)),
+        BandReply::Refused(why) => frequency_told(FrequencyReply::Refused(why)),
+    }
 }
 
 // The numbers of a frequency, or the refusal.

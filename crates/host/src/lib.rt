@@ -1,23 +1,19 @@
 // The library's calls for programs in C: files and plans as bytes, answers as structs of numbers. An answer has the refusal 0 and
-// the place 0. A refusal has its number, 1 to 20, and its place; every other field is then 0, and every lent buffer as it was.
-use placing::BoundReply;
-use placing::bound;
-use request::Request;
+// the place 0. A refusal has its number, 1 to 20, and its place; every other field is then 0, but for what was refused, and every
+// lent buffer as it was.
 ghost use mathlib.Core.Path.{_≡_};
-ghost use Rattle.request.specs.declared.Checked.the-variants.{Sound};
-ghost use Rattle.request.specs.View.{view};
-ghost use Rattle.request.specs.Check.{check};
-ghost use Rattle.placing.specs.Placing.{boundOf};
+ghost use Rattle.host.specs.Host.{version};
 
 mod checking;
 mod frequency;
-mod reading;
+mod requests;
 mod searching;
 
 pub use checking::lightplan_check;
 pub use checking::lightplan_check_starts;
 pub use frequency::lightplan_frequency;
-pub use reading::lightplan_read;
+pub use requests::lightplan_read;
+pub use requests::lightplan_read_routes;
 pub use searching::lightplan_search;
 
 // What a request file holds: its band, how many links and demands it has, and its bound.
@@ -33,8 +29,18 @@ pub struct LightplanRequest {
     pub bound: u32,
 }
 
-// What a search answers. Outcome 0: finished, no plan ends lower; 1: nothing fits; 2: unfinished, with the best plan met; 3:
-// unfinished, no plan met. Without a plan the end is 0.
+// How long the lists of a request file are: its links, its demands, and the links of all routes.
+#[repr(C)]
+pub struct LightplanRoutes {
+    pub refusal: u8,
+    pub place: usize,
+    pub links: usize,
+    pub demands: usize,
+    pub hops: usize,
+}
+
+// What a search answers. Outcome 1: finished, no plan ends lower; 2: nothing fits; 3: unfinished, with the best plan met; 4:
+// unfinished, no plan met. A refusal has the outcome 0. Without a plan the end is 0.
 #[repr(C)]
 pub struct LightplanAnswer {
     pub refusal: u8,
@@ -47,11 +53,13 @@ pub struct LightplanAnswer {
     pub ruled: u64,
 }
 
-// What the check of a plan answers: the plan's end, and the bound that no plan ends below.
+// What the check of a plan answers: the plan's end, and the bound that no plan ends below. Which 0: accepted; 1: the request file is
+// refused; 2: the plan; 3: the buffer for its starts.
 #[repr(C)]
 pub struct LightplanVerdict {
     pub refusal: u8,
     pub place: usize,
+    pub which: u8,
     pub end: u16,
     pub bound: u32,
 }
@@ -66,13 +74,13 @@ pub struct LightplanFrequency {
     pub mhz: i64,
 }
 
-// The bound of a request that was read from a file: such a request is sound.
-fn sound_bound(request: Request) -> u32
-    requires { ⌜ check (view request) ≡ Sound ⌝ }
-    ensures { λ r. ⌜ r ≡ boundOf (view request) ⌝ }
+// Which calls these are and how their answers are laid out.
+const VERSION: u32 = 2;
+
+// The version, which a header must have too to fit this library.
+#[no_mangle]
+pub extern "C" fn lightplan_version() -> u32
+    ensures { λ r. ⌜ r ≡ version ⌝ }
 {
-    match bound(request) {
-        BoundReply::Bound(need) => need,
-        BoundReply::Refused(_) => 0,
-    }
+    VERSION
 }

@@ -1,14 +1,14 @@
 // The search of a request file, for programs in C.
 use crate::LightplanAnswer;
+use reading::read_request;
 use refusal::Refusal;
 use request::Checked;
-use request::read_request;
 use search::Outcome;
 use search::SearchReply;
 use search::search;
 ghost use mathlib.Core.Path.{_≡_};
 ghost use lib.ListN.{length};
-ghost use Rattle.request.specs.Reading.{readFile};
+ghost use Rattle.reading.specs.Reading.{readFile};
 ghost use Rattle.search.specs.Reply.{outcomeNumber, outcomeEnd};
 ghost use Rattle.host.specs.Host.{answerRefused, searchTold, answerEntry, startsSearched, orderSearched};
 
@@ -72,15 +72,15 @@ fn search_told(reply: SearchReply) -> LightplanAnswer
     }
 }
 
-// Which of the four outcomes it is.
+// Which of the four outcomes it is: 1 to 4.
 fn outcome_number(outcome: Outcome) -> u8
     ensures { λ r. ⌜ r ≡ outcomeNumber outcome ⌝ }
 {
     match outcome {
-        Outcome::Finished(_) => 0,
-        Outcome::NothingFits => 1,
-        Outcome::Unfinished(_) => 2,
-        Outcome::UnfinishedEmpty => 3,
+        Outcome::Finished(_) => 1,
+        Outcome::NothingFits => 2,
+        Outcome::Unfinished(_) => 3,
+        Outcome::UnfinishedEmpty => 4,
     }
 }
 

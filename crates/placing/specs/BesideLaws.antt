@@ -1,6 +1,6 @@
 -- A demand to be placed sees the same free starts beside the blocks as beside the rows that they stand for.
 use Prim.Native.Nat.{ℕ, zero, suc, _+_, _-_, _≤_, _<_}
-use mathlib.Core.Bool.{Bool, cond, _&&_}
+use mathlib.Core.Bool.{Bool, cond, _&&_, false}
 use mathlib.Core.List.{List}
 use mathlib.Core.Path.{_≡_, sym, ap, ap₂, _∙_}
 use native.Mathlib.Omega.{arith}
@@ -12,11 +12,12 @@ use Rattle.theory.specs.TestLaws.{by-test}
 use Rattle.theory.specs.ApartLaws.{unjoined-apart, before-apart, after-apart, clash-from}
 use Rattle.theory.specs.ProblemLaws.{end-is, fits-nil, fits-cons, lowest-fits, lowest-least}
 use Rattle.request.specs.View.{View}
-use Rattle.placing.specs.Placing.{problemOf}
-use Rattle.placing.specs.Meeting.{MeetingRow}
-use Rattle.placing.specs.Near.{nearProblem, blockRows, Blocks, spotWithin}
+use Rattle.request.specs.Sharing.{problemOf}
+use Rattle.meeting.specs.Row.{meetingRow}
+use Rattle.meeting.specs.MeetingLaws.{row-entry}
+use Rattle.placing.specs.inner.Near.{nearProblem, blockRows, Blocks, spotWithin}
 use Rattle.placing.specs.NearLaws.{own-end, block-end}
-use Rattle.placing.specs.Placement.{NearEnds, orderRows, OrderAsked, EndsAre, spotBeside}
+use Rattle.placing.specs.inner.Placement.{NearEnds, orderRows, OrderAsked, EndsAre, spotBeside}
 
 -- two problems with the same free starts have the same lowest start
 lowest-same : (P Q : Problem) (rows others : List Row) (i j : ℕ) → ((s : ℕ) → fits P rows i s ≡ fits Q others j s) →
@@ -27,7 +28,7 @@ lowest-same P Q rows others i j same =
     omega arith
 
 module _ (v : View) (order low high near : List ℕ) (row : List Bool) (k i : ℕ) (asked : OrderAsked v order) (few : k ≤ length order)
-    (ends-are : EndsAre v order low high k) (meets : MeetingRow v i row) (nears : NearEnds row order high k near) where
+    (ends-are : EndsAre v order low high k) (meets : row ≡ meetingRow (v .demands) i) (nears : NearEnds row order high k near) where
   -- a placed demand's near end is its end, guard included, if it shares a link with the one to place
   near-is : (m : ℕ) → m < k →
       getD near m 0 ≡ cond (problemOf v .joined (getD order m 0) i) (endOf (problemOf v) (getD order m 0) (getD low m 0) + v .band .guard) 0
@@ -36,7 +37,7 @@ module _ (v : View) (order low high near : List ℕ) (row : List Bool) (k i : �
       let position : getD order m 0 < v .demandCount = asked .positions m (omega arith) in
       nears .ends m h
       ∙ ap₂ (λ (b : Bool) (e : ℕ). cond b e 0)
-      (meets .meets (getD order m 0) (omega (arith, asked .sound .at-most-200-demands)))
+      ((ap (λ (r : List Bool). getD r (getD order m 0) false) meets ∙ row-entry v i (getD order m 0) (omega (arith, asked .sound .at-most-200-demands))))
       (ends-are m h)
 
   -- a placed demand is at least one slot wide

@@ -1,22 +1,23 @@
 -- First fit over a request: the tests before it, the reply, and the starts afterwards.
 use Prim.Native.Nat.{ℕ, _+_}
 use mathlib.Core.Bool.{Bool, cond, _||_}
-use mathlib.Core.List.{List, [], _∷_, _++_, map}
+use mathlib.Core.List.{List, [], _∷_, _++_}
 use lib.Dec.{leb, eqb}
-use lib.ListN.{length, drop}
-use Rattle.refusal.specs.Refusal.{numberOf, placeOf}
-use Rattle.refusal.specs.declared.Refusal.the-variants.{BufferShort, NotAnOrder, NoStart}
-use Rattle.theory.specs.Problem.{Problem, Row, Fitted, placed, refused, firstFit, top, startIn}
-use Rattle.theory.specs.Orders.{listing}
+use lib.ListN.{length}
+use Rattle.refusal.specs.Told.{Told, refusalTold}
+use Rattle.refusal.specs.declared.Refusal.the-variants.{NotAnOrder, NoStart}
+use Rattle.theory.specs.Problem.{Problem, Fitted, placed, refused, firstFit, top}
 use Rattle.request.specs.declared.Checked.{Checked}
 use Rattle.request.specs.declared.Checked.the-variants as checked
 use Rattle.request.specs.View.{View}
 use Rattle.request.specs.Check.{then, has, check}
 use Rattle.placing.specs.declared.PlacedReply.{PlacedReply}
 use Rattle.placing.specs.declared.PlacedReply.the-variants as placed-reply
-use Rattle.placing.specs.Placing.{problemOf}
+use Rattle.request.specs.Sharing.{problemOf}
+use Rattle.lent.specs.Lent.{checkRoom, over, unlessRefused}
+use Rattle.meeting.specs.Plan.{startsOf}
 
--- an entry of an order is wrong when it is K or more, or stood before
+-- an entry of an order is wrong when it is no listing position, or one that the order has had
 unfoldable pub wrongEntry : ℕ → List ℕ → ℕ → Bool
 unfolding has
 wrongEntry K earlier i = leb K i || has i earlier
@@ -38,14 +39,10 @@ unfoldable pub checkOrder : ℕ → List ℕ → Checked
 unfolding then checkLength checkEntries
 checkOrder K order = then (checkLength K order) (checkEntries K [] 0 order)
 
--- 10 at K: the buffer for the starts has fewer entries
-unfoldable pub checkRoom : ℕ → List ℕ → Checked
-checkRoom K starts = cond (leb K (length starts)) checked.Sound (checked.Refused (BufferShort K))
-
 -- the tests before anything is placed: the request's, 12, 10
 unfoldable pub checkFirstFit : View → List ℕ → List ℕ → Checked
 unfolding then checkOrder checkRoom
-checkFirstFit v order starts = then (check v) (then (checkOrder (v .demandCount) order) (checkRoom (v .demandCount) starts))
+checkFirstFit v order starts = then (check v) (then (checkOrder (v .demandCount) order) (checkRoom (v .demandCount) (length starts)))
 
 -- first fit of the request's problem along the order, inside the band
 unfoldable pub fitted : View → List ℕ → Fitted
@@ -67,29 +64,19 @@ unfoldable pub firstFitReply : View → List ℕ → List ℕ → PlacedReply
 unfolding placedAfter checkFirstFit fittedReply fitted
 firstFitReply v order starts = placedAfter (checkFirstFit v order starts) (fittedReply (problemOf v) (fitted v order))
 
--- the starts that rows give, by listing position, K of them; what stood behind them stays
-unfoldable pub startsOf : ℕ → List Row → List ℕ → List ℕ
-unfolding startIn listing
-startsOf K rows starts = map (startIn rows) (listing K) ++ drop K starts
-
--- the starts after a fitting: a refusal leaves them as they were
+-- the starts after a fitting: by listing position those that the rows give, the rest as it was; a refusal leaves all as it was
 unfoldable pub fittedStarts : ℕ → Fitted → List ℕ → List ℕ
-unfolding startsOf
-fittedStarts K (placed rows) starts = startsOf K rows starts
+unfolding over startsOf
+fittedStarts K (placed rows) starts = over (startsOf K rows) starts
 fittedStarts K (refused i) starts = starts
-
--- a check, and where it passes the starts
-unfoldable pub startsAfter : Checked → List ℕ → List ℕ → List ℕ
-startsAfter checked.Sound written starts = written
-startsAfter (checked.Refused why) written starts = starts
 
 -- the starts after first fit
 unfoldable pub firstFitStarts : View → List ℕ → List ℕ → List ℕ
-unfolding startsAfter checkFirstFit fittedStarts fitted
+unfolding unlessRefused checkFirstFit fittedStarts fitted
 firstFitStarts v order starts =
-    startsAfter (checkFirstFit v order starts) (fittedStarts (v .demandCount) (fitted v order) starts) starts
+    unlessRefused (checkFirstFit v order starts) starts (fittedStarts (v .demandCount) (fitted v order) starts)
 
 -- what a reply says: 0 and the plan's end, or the number of the fault and its place
-unfoldable pub placedTold : PlacedReply → ℕ × ℕ
-placedTold (placed-reply.Placed end) = (0, end)
-placedTold (placed-reply.Refused why) = (numberOf why, placeOf why)
+unfoldable pub placedTold : PlacedReply → Told ℕ
+placedTold (placed-reply.Placed end) = (0, end ∷ [])
+placedTold (placed-reply.Refused why) = refusalTold why

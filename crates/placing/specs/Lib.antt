@@ -1,30 +1,13 @@
--- A request as a problem of placing, its bound, and when a plan is allowed.
-pub mod Placing
-pub mod Plan
-pub mod PlanLaws
-pub mod PlanEndLaws
-pub mod Reply
-pub mod ReplyLaws
-pub mod BoundLaws
-pub mod Filling
-pub mod FillingLaws
-pub mod Meeting
-pub mod ViewLaws
-pub mod MeetingLaws
-pub mod Need
-pub mod NeedLaws
-pub mod Near
+-- First fit: what it is, what it answers, and what it promises.
 pub mod NearLaws
 pub mod FirstFit
 pub mod OrderLaws
-pub mod Placement
 pub mod BesideLaws
 pub mod PlacementLaws
-pub mod CopyLaws
 pub mod FirstFitLaws
 pub mod LowestFree
 pub mod LowestFreeLaws
 pub mod PromiseLaws
 pub mod Suffices
 pub mod SufficesLaws
-pub mod PlacingExamples
+pub mod inner

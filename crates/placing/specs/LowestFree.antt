@@ -5,8 +5,8 @@ use mathlib.Core.List.{List, _∷_, _++_, List·Memᴰ}
 use mathlib.Core.Path.{_≡_}
 use lib.ListN.{length, getD}
 use Rattle.request.specs.View.{View, demandAt}
-use Rattle.placing.specs.Placing.{shareLink}
-use Rattle.placing.specs.Plan.{startAt, AllowedPlan, endOfPlan}
+use Rattle.request.specs.Sharing.{shareLink}
+use Rattle.meeting.specs.Plan.{startAt, AllowedPlan, endOfPlan}
 
 -- demand i at s and demand j at t clash: they share a link, and neither ends, the guard included, before the other starts
 pub record Clashing (v : View) (i s j t : ℕ) : Type 0 where
@@ -20,7 +20,7 @@ pub record ClashesWith (v : View) (plan : ℕ → ℕ) (before : List ℕ) (i s 
   pub placed-before : List·Memᴰ other before
   pub clash : Clashing v i s other (plan other)
 
--- the plan's start for demand i is the lowest free one: its end is at most S, it clashes with none of the demands placed before,
+-- the plan's start for demand i is the lowest free one: it ends inside the band, it clashes with none of the demands placed before,
 -- and any lower start clashes with one of them
 pub record LowestFree (v : View) (plan : ℕ → ℕ) (before : List ℕ) (i : ℕ) : Type 0 where
   pub inside : plan i + demandAt (v .demands) i .width ≤ v .band .slots

@@ -14,8 +14,8 @@ use Rattle.theory.specs.FirstFitLaws.{placed-each}
 use Rattle.theory.specs.ArrangeLaws.{mem-middle, no-repeats-first, no-repeats-rest, no-repeats-with, no-repeats-middle}
 use Rattle.theory.specs.Earlier.{NoRepeats, Chained}
 use Rattle.request.specs.View.{View}
-use Rattle.placing.specs.Placing.{problemOf}
-use Rattle.placing.specs.MeetingLaws.{joined-swap}
+use Rattle.request.specs.Sharing.{problemOf}
+use Rattle.meeting.specs.MeetingLaws.{joined-swap}
 use Rattle.placing.specs.LowestFree.{Clashing, ClashesWith, EachLowest}
 
 -- where a demand does not fit, it clashes with a row

@@ -12,10 +12,10 @@ use Rattle.theory.specs.Problem.{Problem, Row, endOf, fits, lowest}
 use Rattle.theory.specs.TestLaws.{by-test}
 use Rattle.theory.specs.ApartLaws.{unjoined-apart, before-apart, after-apart, clash-from}
 use Rattle.theory.specs.ProblemLaws.{end-is}
-use Rattle.theory.specs.Scan.{nextStart, rowsAhead}
+use Rattle.theory.specs.inner.Scan.{nextStart, rowsAhead}
 use Rattle.theory.specs.ScanLaws.{next-nil, next-apart, next-clash, next-from, next-fits, next-same, next-lowest, scan-found, ahead-falls}
 use Rattle.placing.specs.declared.scan.Spot.the-variants.{At, Nowhere}
-use Rattle.placing.specs.Near.{nearProblem, blockRows, Blocks, spotWithin}
+use Rattle.placing.specs.inner.Near.{nearProblem, blockRows, Blocks, spotWithin}
 
 module _ (near low : List ℕ) (n span : ℕ) (blocks : Blocks near low n) where
   -- the one to place ends, its guard included, after its span
@@ -84,6 +84,12 @@ module _ (near low : List ℕ) (n span : ℕ) (blocks : Blocks near low n) where
 pub next-start : (near low : List ℕ) (n span s : ℕ) → s ≡ nextStart (nearProblem near low n span) (blockRows 0 low) n s
 unfolding blockRows
 next-start near low n span s = sym (next-nil (nearProblem near low n span) n s)
+
+-- when all blocks are looked at the look is done
+pub next-whole : (near low : List ℕ) (n span m s next : ℕ) → m ≡ n → next ≡ nextStart (nearProblem near low n span) (blockRows m low) n s →
+    next ≡ nextStart (nearProblem near low n span) (blockRows n low) n s
+next-whole near low n span m s next done looked =
+    looked ∙ ap (λ (k : ℕ). nextStart (nearProblem near low n span) (blockRows k low) n s) done
 
 module _ (P : Problem) (rows : List Row) (i s : ℕ) (not-passed : s ≤ lowest P rows i) where
   -- a scan that has passed the limit finds nothing

@@ -10,7 +10,6 @@ use lib.Dec.{leb, eqb}
 use lib.ListN.{length, getD, take, drop, drop-of-length-le}
 use lib.Seq.{take-suc, drop-cons}
 use borrow.Author.Tests.{le-leb, lt-leb, leb-false, eq-eqb, ne-eqb, eqb-true}
-use Rattle.refusal.specs.declared.Refusal.{Refusal}
 use Rattle.refusal.specs.declared.Refusal.the-variants.{NotAnOrder}
 use Rattle.theory.specs.TestLaws.{by-test, or-first, or-second, or-neither}
 use Rattle.theory.specs.Arrange.{Arrange}
@@ -23,7 +22,7 @@ use Rattle.request.specs.Check.{then, has}
 use Rattle.request.specs.CheckLaws.{then-sound, then-refused, first-sound, next-sound}
 use Rattle.request.specs.SoundLaws.{not-refused}
 use Rattle.placing.specs.FirstFit.{wrongEntry, checkEntries, checkLength, checkOrder}
-use Rattle.placing.specs.MeetingLaws.{has-append}
+use Rattle.meeting.specs.MeetingLaws.{has-append}
 
 module _ (K : ℕ) (order : List ℕ) (k : ℕ) (h : k < length order) where
   -- the entries from k on: the one at k, then those behind it

@@ -15,15 +15,14 @@ use Rattle.theory.specs.ProblemLaws.{end-is, top-nil, top-place, place-is, fill
 use Rattle.theory.specs.FirstFitLaws.{firstFit-nil, firstFit-on, firstFit-refuses}
 use Rattle.theory.specs.TestLaws.{by-test}
 use Rattle.request.specs.declared.Request.{Request}
-use Rattle.request.specs.View.{View, view, viewDemand, demandAt}
+use Rattle.request.specs.View.{View, view, viewDemand, demandAt, noEntry}
 use Rattle.placing.specs.declared.scan.Spot.the-variants.{At, Nowhere}
 use Rattle.placing.specs.declared.PlacedReply.the-variants as placed-reply
-use Rattle.placing.specs.Placing.{problemOf}
-use Rattle.placing.specs.Meeting.{noEntry}
-use Rattle.placing.specs.ViewLaws.{demand-at}
-use Rattle.placing.specs.Near.{spotWithin}
+use Rattle.request.specs.Sharing.{problemOf}
+use Rattle.meeting.specs.AskedLaws.{demand-at}
+use Rattle.placing.specs.inner.Near.{spotWithin}
 use Rattle.placing.specs.FirstFit.{fitted, fittedReply}
-use Rattle.placing.specs.Placement.{orderRows, OrderAsked, Sized, EndsAre, spotBeside, PlaceAsked, StartsGiven, PlacedTo}
+use Rattle.placing.specs.inner.Placement.{orderRows, OrderAsked, Sized, EndsAre, spotBeside, PlaceAsked, StartsGiven, PlacedTo}
 
 -- what the arrays say of a demand of the order
 pub sized : (q : Request) (order : List ℕ) → OrderAsked (view q) order → (m : ℕ) → m < length order → Sized q (getD order m 0)
@@ -224,9 +223,9 @@ unfolding fittedReply
 refused-reply v order i e = sym (ap (fittedReply (problemOf v)) e)
 
 -- where it is refused no starts are given
-pub refused-starts : (v : View) (order at : List ℕ) (i : ℕ) → fitted v order ≡ refused i → StartsGiven (fitted v order) at
-unfolding StartsGiven
-refused-starts v order at i e rows p j h = absurd (let z : _≡_ {A = ℕ} 0 1 = cc in omega arith)
+pub refused-starts : (v : View) (order at : List ℕ) (i : ℕ) → length at ≡ 200 → fitted v order ≡ refused i → StartsGiven (fitted v order) at
+refused-starts v order at i long e =
+    record { full = long; starts-are = λ rows p j h. absurd (let z : _≡_ {A = ℕ} 0 1 = cc in omega arith) }
 
 module _ (v : View) (order : List ℕ) (k end : ℕ) (at low high : List ℕ) (done : length order ≤ k)
     (so-far : PlacedTo v order k end at low high) where
@@ -237,11 +236,15 @@ module _ (v : View) (order : List ℕ) (k end : ℕ) (at low high : List ℕ) (d
 
   -- the starts given are those of the rows
   pub placed-starts : StartsGiven (fitted v order) at
-  unfolding StartsGiven
-  placed-starts rows e j h =
+  placed-starts =
       let out : fitted v order ≡ placed (fill (problemOf v) [] (take k order)) = placed-all v order k end at low high done so-far in
-      let same : fill (problemOf v) [] (take k order) ≡ rows = cc in
-      so-far .starts-are j h ∙ ap (λ (r : List Row). startIn r j) same
+      record {
+        full = so-far .starts-full;
+        starts-are =
+            λ rows e j h.
+            let same : fill (problemOf v) [] (take k order) ≡ rows = cc in
+            so-far .starts-are j h ∙ ap (λ (r : List Row). startIn r j) same;
+      }
 
 -- a clean slate holds nothing
 pub clean-slate : (n j : ℕ) → _≡_ {A = ℕ} (getD (replicate n 0) j 0) 0

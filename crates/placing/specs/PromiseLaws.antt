@@ -1,19 +1,18 @@
--- The promises of the two calls, over requests: what a bound, a plan and a refusal with 13 mean.
+-- The promises of first fit, over requests: what a plan and a refusal with 13 mean.
 use Prim.Native.Nat.{ℕ, _+_, _-_, _≤_, _<_}
-use mathlib.Core.Bool.{Bool, cond}
-use mathlib.Core.List.{List, [], _∷_, _++_, map, List·Memᴰ}
+use mathlib.Core.List.{List, [], _∷_, List·Memᴰ}
 use mathlib.Core.Logic.{_⊎_, inl, inr, ⊎-elim}
 use mathlib.Core.Path.{_≡_, refl, sym, ap, subst, _∙_}
 use native.Mathlib.Omega.{arith}
-use lib.Dec.{leb}
-use lib.ListN.{length, getD, drop, length-append, length-map, length-drop, List·getD-append}
-use lib.Seq.{getD-append-add, getD-drop}
-use borrow.Author.Tests.{leb-true}
+use lib.ListN.{length, getD, drop, length-append, length-drop, List·getD-append}
+use lib.Seq.{getD-drop}
 use Rattle.refusal.specs.declared.Refusal.{Refusal}
-use Rattle.refusal.specs.declared.Refusal.the-variants.{NoStart, BufferShort}
+use Rattle.refusal.specs.declared.Refusal.the-variants.{NoStart}
+use Rattle.refusal.specs.Refusal.{numberOf, placeOf}
+use Rattle.refusal.specs.Told.{Told, refusalTold}
 use Rattle.theory.specs.Problem.{Problem, Row, fits, lowest, fill, top, startIn, Fitted, placed, refused}
 use Rattle.theory.specs.ProblemLaws.{end-is, top-nil}
-use Rattle.theory.specs.TestLaws.{by-test, not-true-false}
+use Rattle.theory.specs.TestLaws.{not-true-false}
 use Rattle.theory.specs.FillLaws.{fill-allowed, fill-planEnd}
 use Rattle.theory.specs.FirstFitLaws.{placed-fill, placed-top, none-fits, refused-at}
 use Rattle.theory.specs.AlikeLaws.{planEnd-alike, allowed-alike}
@@ -21,47 +20,30 @@ use Rattle.theory.specs.Arrange.{Arrange}
 use Rattle.theory.specs.ArrangeLaws.{arrange-mem, arrange-no-repeats}
 use Rattle.theory.specs.Earlier.{NoRepeats}
 use Rattle.theory.specs.Orders.{listing}
-use Rattle.theory.specs.ListingLaws.{listing-below, listing-length, listing-no-repeats}
+use Rattle.theory.specs.ListingLaws.{listing-below, listing-no-repeats}
 use Rattle.request.specs.declared.Request.{Request}
 use Rattle.request.specs.declared.Checked.{Checked}
 use Rattle.request.specs.declared.Checked.the-variants as checked
 use Rattle.request.specs.View.{View, view}
 use Rattle.request.specs.Check.{then, check}
 use Rattle.request.specs.CheckLaws.{first-sound, next-sound}
+use Rattle.request.specs.Told.{checkedTold}
 use Rattle.request.specs.Whole.{Whole}
-use Rattle.request.specs.SoundLaws.{check-sound, whole-counted}
 use Rattle.request.specs.LimitsLaws.{checked-limits}
-use Rattle.placing.specs.declared.BoundReply.the-variants as bound-reply
 use Rattle.placing.specs.declared.PlacedReply.{PlacedReply}
 use Rattle.placing.specs.declared.PlacedReply.the-variants as placed-reply
-use Rattle.placing.specs.Placing.{problemOf, boundOf}
-use Rattle.placing.specs.Plan.{startAt, AllowedPlan, endOfPlan}
-use Rattle.placing.specs.PlanLaws.{ends-to-slots}
-use Rattle.placing.specs.PlanEndLaws.{plan-end-is}
-use Rattle.placing.specs.BoundLaws.{plan-above-bound}
-use Rattle.placing.specs.Reply.{boundAfter, boundReply}
-use Rattle.placing.specs.MeetingLaws.{joined-swap, listing-at}
-use Rattle.placing.specs.FirstFit.{checkOrder, checkRoom, checkFirstFit, fitted, fittedReply, placedAfter, firstFitReply, startsOf, fittedStarts, firstFitStarts}
+use Rattle.request.specs.Sharing.{problemOf}
+use Rattle.meeting.specs.Plan.{startAt, AllowedPlan, endOfPlan, startsOf}
+use Rattle.meeting.specs.PlanLaws.{ends-to-slots}
+use Rattle.meeting.specs.PlanEndLaws.{plan-end-is}
+use Rattle.meeting.specs.MeetingLaws.{joined-swap, start-listed, starts-long}
+use Rattle.lent.specs.Lent.{checkRoom, over}
+use Rattle.lent.specs.LentLaws.{room-held, rest-kept}
+use Rattle.placing.specs.FirstFit.{checkOrder, checkFirstFit, fitted, fittedReply, placedAfter, firstFitReply, fittedStarts, firstFitStarts, placedTold}
 use Rattle.placing.specs.OrderLaws.{order-arranges}
-use Rattle.placing.specs.FirstFitLaws.{fitted-writes}
+use Rattle.placing.specs.FirstFitLaws.{fitted-writes, placed-told-whole}
 use Rattle.placing.specs.LowestFree.{PlanGiven, NoStartFree}
 use Rattle.placing.specs.LowestFreeLaws.{front-once, before-clashes, each-lowest}
-
--- a bound in reply: the request passed its test, and this is its bound
-bound-given : (c : Checked) (b found : ℕ) → boundAfter c (bound-reply.Bound found) ≡ bound-reply.Bound b → (c ≡ checked.Sound) × (found ≡ b)
-unfolding boundAfter
-bound-given checked.Sound b found e = (refl, cc)
-bound-given (checked.Refused why) b found e = absurd (let z : _≡_ {A = ℕ} 0 1 = cc in omega arith)
-
--- no allowed plan ends below the bound that the call gives
-pub bound-promise : (q : Request) → Whole q → (b : ℕ) → boundReply (view q) ≡ bound-reply.Bound b →
-    (starts : List ℕ) → AllowedPlan (view q) starts → b ≤ endOfPlan (view q) starts
-unfolding boundReply
-bound-promise q whole b e starts allowed =
-    let (passes, same) = bound-given (check (view q)) b (boundOf (view q)) e in
-    let limits = checked-limits q whole passes in
-    subst (λ (n : ℕ). n ≤ endOfPlan (view q) starts) same
-    (plan-above-bound (view q) (check-sound (view q) (whole-counted q whole) passes) (limits .demands-there) (limits .routes-there) starts allowed)
 
 -- a plan's end in reply: the tests passed, and it is the reply to the fitting
 pub end-given : (c : Checked) (reply : PlacedReply) (end : ℕ) → placedAfter c reply ≡ placed-reply.Placed end →
@@ -77,39 +59,28 @@ unfolding fittedReply
 refusal-is P (placed rows) why e = absurd (let z : _≡_ {A = ℕ} 0 1 = cc in omega arith)
 refusal-is P (refused i) why e = (i, refl, cc)
 
--- a buffer that passes has room
-room-there : (K : ℕ) (starts : List ℕ) → checkRoom K starts ≡ checked.Sound → K ≤ length starts
-unfolding checkRoom
-room-there K starts passes =
-    by-test (leb K (length starts))
-    (leb-true K (length starts))
-    (λ f.
-    let refused : checked.Refused (BufferShort K) ≡ checked.Sound
-    = sym (ap (λ (b : Bool). cond b checked.Sound (checked.Refused (BufferShort K))) f) ∙ passes in
-    absurd (let z : _≡_ {A = ℕ} 0 1 = cc in omega arith))
-
--- an index behind the front of a list
-apart-by : (front : List ℕ) (K k : ℕ) → length front ≡ K → K ≤ k → k ≡ length front + (k - K)
-apart-by front K k long h = omega arith
+-- an index behind the first K
+apart-by : (K k : ℕ) → K ≤ k → k ≡ K + (k - K)
+apart-by K k h = omega arith
 
 module _ (v : View) (order starts : List ℕ) (tested : checkFirstFit v order starts ≡ checked.Sound) where
   -- what the tests leave to know
   pub request-sound : check v ≡ checked.Sound
   unfolding checkFirstFit
-  request-sound = first-sound (check v) (then (checkOrder (v .demandCount) order) (checkRoom (v .demandCount) starts)) tested
+  request-sound = first-sound (check v) (then (checkOrder (v .demandCount) order) (checkRoom (v .demandCount) (length starts))) tested
 
   order-sound : checkOrder (v .demandCount) order ≡ checked.Sound
   unfolding checkFirstFit
   order-sound =
-      first-sound (checkOrder (v .demandCount) order) (checkRoom (v .demandCount) starts)
-      (next-sound (check v) (then (checkOrder (v .demandCount) order) (checkRoom (v .demandCount) starts)) tested)
+      first-sound (checkOrder (v .demandCount) order) (checkRoom (v .demandCount) (length starts))
+      (next-sound (check v) (then (checkOrder (v .demandCount) order) (checkRoom (v .demandCount) (length starts))) tested)
 
   pub room-enough : v .demandCount ≤ length starts
   unfolding checkFirstFit
   room-enough =
-      room-there (v .demandCount) starts
-      (next-sound (checkOrder (v .demandCount) order) (checkRoom (v .demandCount) starts)
-      (next-sound (check v) (then (checkOrder (v .demandCount) order) (checkRoom (v .demandCount) starts)) tested))
+      room-held (v .demandCount) (length starts)
+      (next-sound (checkOrder (v .demandCount) order) (checkRoom (v .demandCount) (length starts))
+      (next-sound (check v) (then (checkOrder (v .demandCount) order) (checkRoom (v .demandCount) (length starts))) tested))
 
   -- the order lists each listing position once
   arranged : Arrange order (listing (v .demandCount))
@@ -152,20 +123,20 @@ module _ (v : View) (order starts : List ℕ) (tested : checkFirstFit v order st
     rows-are = placed-fill (problemOf v) (v .band .slots) [] order rows out
 
     -- what is written
-    written : firstFitStarts v order starts ≡ startsOf (v .demandCount) rows starts
+    written : firstFitStarts v order starts ≡ over (startsOf (v .demandCount) rows) starts
     unfolding fittedStarts
     written =
         fitted-writes v order starts tested ∙ ap (λ (o : Fitted). fittedStarts (v .demandCount) o starts) out
 
     -- the start written for a demand is the one that the rows give it
     pub start-is : (j : ℕ) → j < v .demandCount → startAt (firstFitStarts v order starts) j ≡ startIn (fill (problemOf v) [] order) j
-    unfolding startAt startsOf
+    unfolding startAt over
     start-is j h =
         let K : ℕ = v .demandCount in
-        let long : length (map (startIn rows) (listing K)) ≡ K = length-map (listing K) (startIn rows) ∙ listing-length K in
+        let front : List ℕ = startsOf K rows in
         ap (λ (l : List ℕ). getD l j 0) written
-        ∙ List·getD-append (map (startIn rows) (listing K)) (drop K starts) 0 j (omega arith)
-        ∙ listing-at (startIn rows) K j 0 h
+        ∙ List·getD-append front (drop (length front) starts) 0 j (omega (arith, starts-long K rows))
+        ∙ start-listed K rows j h
         ∙ ap (λ (r : List Row). startIn r j) rows-are
 
     listed-start : (j : ℕ) → List·Memᴰ j (listing (v .demandCount)) →
@@ -179,16 +150,13 @@ module _ (v : View) (order starts : List ℕ) (tested : checkFirstFit v order st
 
     -- nothing behind the first K entries is written
     behind-is : (k : ℕ) → v .demandCount ≤ k → getD (firstFitStarts v order starts) k 0 ≡ getD starts k 0
-    unfolding startsOf
     behind-is k h =
         let K : ℕ = v .demandCount in
-        let front : List ℕ = map (startIn rows) (listing K) in
-        let long : length front ≡ K = length-map (listing K) (startIn rows) ∙ listing-length K in
-        ap (λ (l : List ℕ). getD l k 0) written
-        ∙ ap (λ (n : ℕ). getD (front ++ drop K starts) n 0) (apart-by front K k long h)
-        ∙ getD-append-add front (drop K starts) (k - K) 0
+        ap (λ (n : ℕ). getD (firstFitStarts v order starts) n 0) (apart-by K k h)
+        ∙ sym (getD-drop K (firstFitStarts v order starts) (k - K) 0)
+        ∙ ap (λ (l : List ℕ). getD l (k - K) 0) (ap (drop K) written ∙ rest-kept K (startsOf K rows) starts (starts-long K rows))
         ∙ getD-drop K starts (k - K) 0
-        ∙ ap (λ (n : ℕ). getD starts n 0) (omega arith)
+        ∙ ap (λ (n : ℕ). getD starts n 0) (sym (apart-by K k h))
 
     -- the plan given is allowed
     given-allowed : AllowedPlan v (firstFitStarts v order starts)
@@ -211,12 +179,12 @@ module _ (v : View) (order starts : List ℕ) (tested : checkFirstFit v order st
 
     -- as many entries as before
     given-length : length (firstFitStarts v order starts) ≡ length starts
-    unfolding startsOf
+    unfolding over
     given-length =
-        let K : ℕ = v .demandCount in
+        let front : List ℕ = startsOf (v .demandCount) rows in
         ap length written
-        ∙ length-append (map (startIn rows) (listing K)) (drop K starts)
-        ∙ omega (arith, length-map (listing K) (startIn rows), listing-length K, length-drop K starts, room-enough)
+        ∙ length-append front (drop (length front) starts)
+        ∙ omega (arith, starts-long (v .demandCount) rows, length-drop (length front) starts, room-enough)
 
     -- all are placed: the promise
     plan-given : length (v .demands) ≡ v .demandCount → PlanGiven v order starts (firstFitStarts v order starts) (top (problemOf v) rows)
@@ -240,14 +208,16 @@ unfolding fittedReply
 end-is-top P (placed rows) end e = (rows, refl, cc)
 end-is-top P (refused i) end e = absurd (let z : _≡_ {A = ℕ} 0 1 = cc in omega arith)
 
--- first fit that replies with an end has given each demand, in the order, its lowest free start; the plan is allowed and has that end
+-- first fit that tells an end has given each demand, in the order, its lowest free start; the plan is allowed and has that end
 pub first-fit-promise : (q : Request) → Whole q → (order starts : List ℕ) (end : ℕ) →
-    firstFitReply (view q) order starts ≡ placed-reply.Placed end →
+    placedTold (firstFitReply (view q) order starts) ≡ (0, end ∷ []) →
     PlanGiven (view q) order starts (firstFitStarts (view q) order starts) end
-unfolding firstFitReply
+unfolding firstFitReply placedTold
 first-fit-promise q whole order starts end e =
     let v : View = view q in
-    let (tested, answer) = end-given (checkFirstFit v order starts) (fittedReply (problemOf v) (fitted v order)) end e in
+    let (tested, answer) =
+    end-given (checkFirstFit v order starts) (fittedReply (problemOf v) (fitted v order)) end
+    (placed-told-whole (firstFitReply v order starts) (placed-reply.Placed end) e) in
     let (rows, out, tops) = end-is-top (problemOf v) (fitted v order) end answer in
     let limits = checked-limits q whole (request-sound v order starts tested) in
     subst (PlanGiven v order starts (firstFitStarts v order starts)) tops (plan-given v order starts tested rows out (limits .demands-there))
@@ -259,12 +229,34 @@ unfolding placedAfter
 refused-by-either checked.Sound reply why e = inr (refl, e)
 refused-by-either (checked.Refused found) reply why e = let same : found ≡ why = cc in inl (ap checked.Refused same)
 
--- first fit that is refused was refused by a test, or with 13 at a demand for which no start is free
-pub first-fit-refusal : (v : View) (order starts : List ℕ) (why : Refusal) → firstFitReply v order starts ≡ placed-reply.Refused why →
-    (checkFirstFit v order starts ≡ checked.Refused why) ⊎ ((i : ℕ) × (why ≡ NoStart i) × NoStartFree v order i)
-unfolding firstFitReply
-first-fit-refusal v order starts why e =
-    ⊎-elim inl
+-- a refusal of first fit is a test's, told alike, or 13 at a demand for which no start is free
+refused-told : (v : View) (order starts : List ℕ) (why : Refusal) → firstFitReply v order starts ≡ placed-reply.Refused why →
+    (checkedTold (checkFirstFit v order starts) ≡ refusalTold why) ⊎ ((numberOf why ≡ 13) × NoStartFree v order (placeOf why))
+unfolding firstFitReply checkedTold
+refused-told v order starts why e =
+    ⊎-elim
+    (λ (early : checkFirstFit v order starts ≡ checked.Refused why). inl (ap checkedTold early))
     (λ (late : (checkFirstFit v order starts ≡ checked.Sound) × (fittedReply (problemOf v) (fitted v order) ≡ placed-reply.Refused why)).
-    inr (refusal-promise v order starts (late .0) why (late .1)))
+    let (i, thirteen, none) = refusal-promise v order starts (late .0) why (late .1) in
+    inr (ap numberOf thirteen, subst (λ (r : Refusal). NoStartFree v order (placeOf r)) (sym thirteen) none))
     (refused-by-either (checkFirstFit v order starts) (fittedReply (problemOf v) (fitted v order)) why e)
+
+-- so is a fault that is told
+fault-is : (v : View) (order starts : List ℕ) (number place : ℕ) → 1 ≤ number →
+    (r : PlacedReply) → firstFitReply v order starts ≡ r → placedTold r ≡ (number, place ∷ []) →
+    (checkedTold (checkFirstFit v order starts) ≡ (number, place ∷ [])) ⊎ ((number ≡ 13) × NoStartFree v order place)
+unfolding placedTold
+fault-is v order starts number place fault (placed-reply.Placed end) e told =
+    absurd (omega (arith, fault, ap (λ (t : Told ℕ). t .0) told))
+fault-is v order starts number place fault (placed-reply.Refused why) e told =
+    ⊎-elim
+    (λ (early : checkedTold (checkFirstFit v order starts) ≡ refusalTold why). inl (early ∙ told))
+    (λ (late : (numberOf why ≡ 13) × NoStartFree v order (placeOf why)).
+    inr (sym (ap (λ (t : Told ℕ). t .0) told) ∙ late .0, subst (NoStartFree v order) (ap (λ (t : Told ℕ). getD (t .1) 0 0) told) (late .1)))
+    (refused-told v order starts why e)
+
+-- first fit that tells a fault, of any number and place: a test tells it, or it is 13 and no start is free for the demand at the place
+pub first-fit-refusal : (v : View) (order starts : List ℕ) (number place : ℕ) → 1 ≤ number →
+    placedTold (firstFitReply v order starts) ≡ (number, place ∷ []) →
+    (checkedTold (checkFirstFit v order starts) ≡ (number, place ∷ [])) ⊎ ((number ≡ 13) × NoStartFree v order place)
+first-fit-refusal v order starts number place fault told = fault-is v order starts number place fault (firstFitReply v order starts) refl told

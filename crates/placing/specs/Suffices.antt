@@ -1,16 +1,15 @@
 -- First fit suffices, in the planner's words: in the order of a plan's starts it does as well as the plan.
 use Prim.Native.Nat.{ℕ, _+_, _≤_, _<_}
-use mathlib.Core.List.{List}
+use mathlib.Core.List.{List, [], _∷_}
 use mathlib.Core.Path.{_≡_}
 use Rattle.theory.specs.Arrange.{Arrange}
 use Rattle.theory.specs.ByStart.{ByStart}
 use Rattle.theory.specs.Orders.{listing}
 use Rattle.request.specs.View.{View, demandAt}
-use Rattle.placing.specs.declared.PlacedReply.the-variants as placed-reply
-use Rattle.placing.specs.FirstFit.{firstFitReply, firstFitStarts}
-use Rattle.placing.specs.Plan.{startAt, endOfPlan}
+use Rattle.placing.specs.FirstFit.{firstFitReply, firstFitStarts, placedTold}
+use Rattle.meeting.specs.Plan.{startAt, endOfPlan}
 
--- an order lists the demands by a plan's starts, equal starts by listing position
+-- an order lists the demands by a plan's starts; where those are equal, as they are listed
 pub record OrderByStart (v : View) (plan order : List ℕ) : Type 0 where
   pub an-order : Arrange order (listing (v .demandCount))
   pub by-start : ByStart (startAt plan) (listing (v .demandCount)) order
@@ -20,9 +19,9 @@ unfoldable pub endIn : View → List ℕ → ℕ → ℕ
 unfolding startAt
 endIn v plan i = startAt plan i + demandAt (v .demands) i .width
 
--- first fit in an order does as well as a plan: it is not refused, no demand ends higher than in the plan, nor does the whole
+-- first fit in an order does as well as a plan: it places all demands, each as low as the plan does or lower, and so the whole
 pub record AsLowAs (v : View) (plan order starts : List ℕ) : Type 0 where
   pub end : ℕ
-  pub not-refused : firstFitReply v order starts ≡ placed-reply.Placed end
+  pub not-refused : placedTold (firstFitReply v order starts) ≡ (0, end ∷ [])
   pub none-higher : (i : ℕ) → i < v .demandCount → endIn v (firstFitStarts v order starts) i ≤ endIn v plan i
   pub end-no-higher : end ≤ endOfPlan v plan

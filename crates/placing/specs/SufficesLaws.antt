@@ -1,30 +1,29 @@
 -- First fit suffices for requests: some order is as good as any plan.
-use Prim.Native.Nat.{ℕ, _+_, _≤_, _<_}
-use mathlib.Core.List.{List, [], List·Memᴰ}
-use mathlib.Core.Path.{_≡_, refl, sym, ap, subst, _∙_}
+use Prim.Native.Nat.{ℕ, _≤_}
+use mathlib.Core.List.{List, []}
+use mathlib.Core.Path.{_≡_, sym, ap, subst, _∙_}
 use native.Mathlib.Omega.{arith}
 use lib.ListN.{length}
-use Rattle.theory.specs.Problem.{Problem, Fitted, placed, fill, top, startIn}
+use Rattle.theory.specs.Problem.{Problem, Fitted, fill, top}
 use Rattle.theory.specs.Orders.{listing}
 use Rattle.theory.specs.ListingLaws.{listing-below, listing-mem, listing-no-repeats}
-use Rattle.theory.specs.ByStart.{AsLow}
+use Rattle.theory.specs.inner.AsLow.{AsLow}
 use Rattle.theory.specs.ByStartLaws.{by-start}
 use Rattle.theory.specs.SufficesLaws.{first-fit-suffices}
 use Rattle.request.specs.declared.Request.{Request}
 use Rattle.request.specs.declared.Checked.{Checked}
 use Rattle.request.specs.declared.Checked.the-variants as checked
-use Rattle.request.specs.View.{View, view, demandAt}
+use Rattle.request.specs.View.{View, view}
 use Rattle.request.specs.Check.{check}
 use Rattle.request.specs.Sound.{SoundRequest}
 use Rattle.request.specs.Whole.{Whole}
 use Rattle.request.specs.SoundLaws.{check-sound, whole-counted}
 use Rattle.request.specs.LimitsLaws.{checked-limits}
-use Rattle.placing.specs.declared.PlacedReply.the-variants as placed-reply
-use Rattle.placing.specs.Placing.{problemOf}
-use Rattle.placing.specs.Plan.{startAt, AllowedPlan, endOfPlan}
-use Rattle.placing.specs.PlanLaws.{slots-to-ends}
-use Rattle.placing.specs.PlanEndLaws.{plan-end-is}
-use Rattle.placing.specs.FirstFit.{checkFirstFit, fitted, fittedReply, placedAfter, firstFitReply}
+use Rattle.request.specs.Sharing.{problemOf}
+use Rattle.meeting.specs.Plan.{startAt, AllowedPlan}
+use Rattle.meeting.specs.PlanLaws.{slots-to-ends}
+use Rattle.meeting.specs.PlanEndLaws.{plan-end-is}
+use Rattle.placing.specs.FirstFit.{checkFirstFit, fitted, fittedReply, placedAfter, firstFitReply, placedTold}
 use Rattle.placing.specs.FirstFitLaws.{all-pass}
 use Rattle.placing.specs.OrderLaws.{arranged-passes}
 use Rattle.placing.specs.PromiseLaws.{start-is}
@@ -34,12 +33,13 @@ use Rattle.placing.specs.Suffices.{OrderByStart, endIn, AsLowAs}
 pub suffices-promise : (q : Request) → Whole q → check (view q) ≡ checked.Sound → (plan : List ℕ) → AllowedPlan (view q) plan →
     (order : List ℕ) → OrderByStart (view q) plan order → (starts : List ℕ) → view q .demandCount ≤ length starts →
     AsLowAs (view q) plan order starts
-unfolding firstFitReply fitted fittedReply placedAfter endIn
+unfolding firstFitReply fitted fittedReply placedAfter placedTold endIn
 suffices-promise q whole passes plan allowed order by starts room =
     record {
       end = top P (fill P [] order);
       not-refused =
-          ap (λ (c : Checked). placedAfter c (fittedReply P (fitted v order))) tested ∙ ap (fittedReply P) (low .not-refused);
+          ap (λ (c : Checked). placedTold (placedAfter c (fittedReply P (fitted v order)))) tested
+          ∙ ap (λ (out : Fitted). placedTold (fittedReply P out)) (low .not-refused);
       none-higher =
           λ i h.
           let same = start-is v order starts tested (fill P [] order) (low .not-refused) i h in

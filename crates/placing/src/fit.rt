@@ -1,18 +1,18 @@
 // First fit along an order that is one.
 use crate::PlacedReply;
-use crate::meeting::meeting_row;
 use crate::scan::Spot;
 use crate::scan::higher;
 use crate::scan::lowest_within;
 use crate::scan::slot_if;
+use meeting::meeting_row;
 use refusal::Refusal;
 use request::Request;
 ghost use mathlib.Core.Path.{_≡_};
 ghost use lib.ListN.{getD};
 ghost use Rattle.request.specs.View.{view};
-ghost use Rattle.placing.specs.Placing.{problemOf};
+ghost use Rattle.request.specs.Sharing.{problemOf};
 ghost use Rattle.placing.specs.FirstFit.{fitted, fittedReply};
-ghost use Rattle.placing.specs.Placement.{NearAsked, NearEnds, BesideAsked, spotBeside, orderRows, PlaceAsked, StartsGiven, CopyAsked, copiedStarts};
+ghost use Rattle.placing.specs.inner.Placement.{NearAsked, NearEnds, BesideAsked, spotBeside, orderRows, PlaceAsked, StartsGiven};
 
 // Where the demands placed so far end, the guard included, if they meet the one to place, else 0. The row says who meets it.
 fn near_ends(row: &[bool; 200], order: &[u16], high: &[u16; 200], placed: usize) -> [u16; 200]
@@ -46,7 +46,7 @@ fn start_beside(
     let guard = request.band.guard as u16;
     let demand = request.demands[i];
     let width = demand.width;
-    let row = meeting_row(request, i);
+    let row = meeting_row(request.demands, request.demand_count, i);
     let near = near_ends(&row, order, high, k);
     lowest_within(&near, low, k, width + guard, slots - width)
 }
@@ -78,16 +78,4 @@ pub(crate) fn place_all(request: Request, order: &[u16], at: &mut [u16; 200]) ->
         k += 1;
     }
     PlacedReply::Placed(end)
-}
-
-// Writes the first starts into a lent buffer.
-pub(crate) fn copy_starts(at: &[u16; 200], count: usize, starts: &mut [u16])
-    requires { ⌜ CopyAsked count (now starts) ⌝ }
-    ensures { λ r. ⌜ now (starts .exit) ≡ copiedStarts count (now (at .entry)) (now (starts .entry)) ⌝ }
-{
-    let mut i: usize = 0;
-    while i < count {
-        starts[i] = at[i];
-        i += 1;
-    }
 }

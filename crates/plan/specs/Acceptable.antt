@@ -4,7 +4,7 @@ use mathlib.Core.List.{List}
 use lib.ListN.{length}
 use Rattle.request.specs.View.{View}
 use Rattle.request.specs.Sound.{SoundRequest}
-use Rattle.placing.specs.Plan.{AllowedPlan}
+use Rattle.meeting.specs.Plan.{AllowedPlan}
 
 -- a sound request, a start for each demand, and a plan that is allowed by the slots that it holds
 pub record Acceptable (v : View) (starts : List ℕ) : Type 0 where

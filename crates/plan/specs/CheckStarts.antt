@@ -1,17 +1,19 @@
--- The check of starts in memory, in the order of its checks.
+-- The check of a list of starts, test by test.
 use Prim.Native.Nat.{ℕ, _+_}
 use mathlib.Core.Bool.{cond}
 use mathlib.Core.List.{List, [], _∷_}
 use lib.ListN.{length}
 use lib.Dec.{ltb}
 use Rattle.refusal.specs.declared.Refusal.the-variants.{NoRow, EndAbove, Clash}
+use Rattle.grid.specs.Grid.{endWithin}
+use Rattle.refusal.specs.Told.{Told, refusalTold}
 use Rattle.theory.specs.Problem.{Problem, Row, fits}
 use Rattle.request.specs.declared.Checked.{Checked}
 use Rattle.request.specs.declared.Checked.the-variants.{Sound, Refused}
 use Rattle.request.specs.View.{DemandView, View}
-use Rattle.request.specs.Check.{check, then}
-use Rattle.placing.specs.Placing.{problemOf}
-use Rattle.placing.specs.Plan.{startAt, endOfPlan}
+use Rattle.request.specs.Check.{check, then, must}
+use Rattle.request.specs.Sharing.{problemOf}
+use Rattle.meeting.specs.Plan.{startAt, endOfPlan}
 use Rattle.plan.specs.declared.CheckReply.{CheckReply}
 use Rattle.plan.specs.declared.CheckReply.the-variants.{Accepted, Refused as Rejected}
 
@@ -21,10 +23,10 @@ checkCount K starts = cond (ltb (length starts) K) (Refused (NoRow (length start
 
 -- 17 at listing position k: the end is above S
 unfoldable pub checkEnd : ℕ → List ℕ → ℕ → DemandView → Checked
-unfolding startAt
-checkEnd S starts k d = cond (ltb S (startAt starts k + d .width)) (Refused (EndAbove k)) Sound
+unfolding must startAt
+checkEnd S starts k d = must (endWithin S (startAt starts k) (d .width)) (EndAbove k)
 
--- 17 at the lowest listing position whose end is above S
+-- 17 at the first demand, as listed, that ends above S
 unfoldable pub checkEnds : ℕ → List ℕ → ℕ → List DemandView → Checked
 unfolding then checkEnd
 checkEnds S starts k [] = Sound
@@ -63,3 +65,8 @@ replyWith (Refused why) end = Rejected why
 unfoldable pub startsReply : View → List ℕ → CheckReply
 unfolding checkStarts endOfPlan replyWith
 startsReply v starts = replyWith (checkStarts v starts) (endOfPlan v starts)
+
+-- what an answer says: 0 and the plan's end, or the number of the fault and its place
+unfoldable pub acceptedTold : CheckReply → Told ℕ
+acceptedTold (Accepted end) = (0, end ∷ [])
+acceptedTold (Rejected why) = refusalTold why

@@ -7,9 +7,10 @@ use mathlib.Core.Path.{_≡_, refl, ap, subst, _∙_}
 use native.Mathlib.Omega.{arith}
 use lib.ListN.{length}
 use lib.Dec.{ltb}
-use borrow.Author.Tests.{ltb-true, ltb-false, lt-ltb, le-ltb}
+use borrow.Author.Tests.{ltb-true, ltb-false, lt-ltb, le-ltb, leb-true, le-leb}
 use Rattle.refusal.specs.declared.Refusal.{Refusal}
 use Rattle.refusal.specs.declared.Refusal.the-variants.{NoRow, EndAbove, Clash}
+use Rattle.grid.specs.Grid.{endWithin}
 use Rattle.theory.specs.Problem.{Problem, Row, endOf, apart, fits, Allowed}
 use Rattle.theory.specs.ProblemLaws.{fits-nil, fits-with, fits-first, fits-rest}
 use Rattle.theory.specs.ApartLaws.{apart-swap}
@@ -19,12 +20,12 @@ use Rattle.theory.specs.ListingLaws.{listing-below, listing-mem}
 use Rattle.request.specs.declared.Checked.{Checked}
 use Rattle.request.specs.declared.Checked.the-variants.{Sound, Refused}
 use Rattle.request.specs.View.{DemandView, View, demandAt}
-use Rattle.request.specs.Check.{then, check}
-use Rattle.request.specs.CheckLaws.{then-sound, then-refused, first-sound, next-sound}
-use Rattle.placing.specs.Placing.{problemOf}
+use Rattle.request.specs.Check.{then, must, check}
+use Rattle.request.specs.CheckLaws.{then-sound, then-refused, first-sound, next-sound, test-held}
+use Rattle.request.specs.Sharing.{problemOf}
 use Rattle.request.specs.SoundLaws.{not-refused, passed}
-use Rattle.placing.specs.Plan.{startAt}
-use Rattle.placing.specs.PlanLaws.{share-swap}
+use Rattle.meeting.specs.Plan.{startAt}
+use Rattle.meeting.specs.PlanLaws.{share-swap}
 use Rattle.plan.specs.CheckStarts.{checkCount, checkEnd, checkEnds, checkClash, checkClashes, checkPlaces, checkStarts}
 
 -- two checks that pass, pass one after the other
@@ -46,8 +47,8 @@ unfolding checkEnds checkEnd demandAt
 ends-within S starts k [] h p l = absurd (omega arith)
 ends-within S starts k (d ∷ demands) h zero l =
     subst (λ (n : ℕ). startAt starts n + d .width ≤ S) (omega arith)
-    (ltb-false S (startAt starts k + d .width)
-    (not-refused (ltb S (startAt starts k + d .width)) (EndAbove k)
+    (leb-true (startAt starts k + d .width) S
+    (test-held (endWithin S (startAt starts k) (d .width)) (EndAbove k)
     (first-sound (checkEnd S starts k d) (checkEnds S starts (k + 1) demands) h)))
 ends-within S starts k (d ∷ demands) h (suc p) l =
     subst (λ (n : ℕ). startAt starts n + demandAt demands p .width ≤ S) (omega arith)
@@ -62,12 +63,12 @@ each-within S starts demands h p l =
 -- each end is at most S: 17 passes
 pub within-ends : (S : ℕ) (starts : List ℕ) (k : ℕ) (demands : List DemandView) →
     ((p : ℕ) → p < length demands → startAt starts (k + p) + demandAt demands p .width ≤ S) → checkEnds S starts k demands ≡ Sound
-unfolding checkEnds checkEnd demandAt
+unfolding checkEnds checkEnd must demandAt
 within-ends S starts k [] h = refl
 within-ends S starts k (d ∷ demands) h =
     both-sound (checkEnd S starts k d) (checkEnds S starts (k + 1) demands)
-    (passes-unless (ltb S (startAt starts k + d .width)) (EndAbove k)
-    (le-ltb S (startAt starts k + d .width) (subst (λ (n : ℕ). startAt starts n + d .width ≤ S) (omega arith) (h 0 (omega arith)))))
+    (passes-if (endWithin S (startAt starts k) (d .width)) (EndAbove k)
+    (le-leb (startAt starts k + d .width) S (subst (λ (n : ℕ). startAt starts n + d .width ≤ S) (omega arith) (h 0 (omega arith)))))
     (within-ends S starts (k + 1) demands
     (λ p l. subst (λ (n : ℕ). startAt starts n + demandAt demands p .width ≤ S) (omega arith) (h (suc p) (omega arith))))
 

@@ -1,22 +1,7 @@
--- How starts are checked, and what a plan is as a file.
+-- When starts are accepted as a plan.
 pub mod CheckStarts
 pub mod CheckStartsLaws
-pub mod Rows
 pub mod TurnLaws
 pub mod Acceptable
 pub mod AcceptableLaws
-pub mod PlanFile
-pub mod PlanFileLaws
-pub mod PlanReading
-pub mod PlanReadingLaws
-pub mod PlanPacking
-pub mod PlanPackingLaws
-pub mod PlanRowsLaws
-pub mod RoundTrip
-pub mod AlikeLaws
-pub mod RowsInFile
-pub mod RowsInFileLaws
-pub mod InOrderLaws
-pub mod RowsBackLaws
-pub mod RowsEncodedLaws
-pub mod RoundTripLaws
+pub mod inner

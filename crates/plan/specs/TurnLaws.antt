@@ -8,19 +8,19 @@ use native.Mathlib.Numerals.{add-one}
 use lib.ListN.{length, drop, drop-of-length-le}
 use lib.Seq.{drop-cons}
 use lib.Dec.{ltb}
-use borrow.Author.Tests.{ltb-true, lt-ltb, le-ltb}
+use borrow.Author.Tests.{ltb-true, lt-ltb, le-leb, lt-leb}
 use Rattle.refusal.specs.declared.Refusal.the-variants.{EndAbove, Clash}
 use Rattle.theory.specs.Problem.{Problem, endOf, apart, fits}
 use Rattle.theory.specs.ApartLaws.{clash-facts, clash-from}
 use Rattle.theory.specs.TestLaws.{not-false-true, not-both, and-first, and-second, and-both}
 use Rattle.request.specs.declared.Checked.the-variants.{Sound, Refused}
 use Rattle.request.specs.View.{DemandView, View, demandAt, noDemand}
-use Rattle.request.specs.Check.{then}
+use Rattle.request.specs.Check.{then, must}
 use Rattle.request.specs.CheckLaws.{then-sound, then-refused}
-use Rattle.placing.specs.Placing.{shareLink, problemOf}
-use Rattle.placing.specs.Plan.{startAt, endFrom}
+use Rattle.request.specs.Sharing.{shareLink, problemOf}
+use Rattle.meeting.specs.Plan.{startAt, endFrom}
 use Rattle.plan.specs.CheckStarts.{checkEnd, checkEnds, checkClash, checkClashes}
-use Rattle.plan.specs.Rows.{rowsBefore, tooClose}
+use Rattle.plan.specs.inner.Rows.{rowsBefore, tooClose}
 
 module _ (S : ℕ) (starts : List ℕ) (demands : List DemandView) (k : ℕ) where
   -- 17 from a position on: at the demand there, then behind it
@@ -32,18 +32,18 @@ module _ (S : ℕ) (starts : List ℕ) (demands : List DemandView) (k : ℕ) whe
   -- an end within the band passes, and the next is looked at
   pub end-passes : k < length demands → startAt starts k + demandAt demands k .width ≤ S →
       checkEnds S starts k (drop k demands) ≡ checkEnds S starts (k + 1) (drop (k + 1) demands)
-  unfolding checkEnd
+  unfolding checkEnd must
   end-passes h within =
       ends-turn h ∙ then-sound (checkEnd S starts k (demandAt demands k)) (checkEnds S starts (k + 1) (drop (k + 1) demands))
-      (ap (λ (b : Bool). cond b (Refused (EndAbove k)) Sound) (le-ltb S (startAt starts k + demandAt demands k .width) within))
+      (ap (λ (b : Bool). cond b Sound (Refused (EndAbove k))) (le-leb (startAt starts k + demandAt demands k .width) S within))
 
   -- an end above it is refused with 17
   pub end-refused : k < length demands → S < startAt starts k + demandAt demands k .width →
       checkEnds S starts k (drop k demands) ≡ Refused (EndAbove k)
-  unfolding checkEnd
+  unfolding checkEnd must
   end-refused h above =
       ends-turn h ∙ then-refused (checkEnd S starts k (demandAt demands k)) (checkEnds S starts (k + 1) (drop (k + 1) demands)) (EndAbove k)
-      (ap (λ (b : Bool). cond b (Refused (EndAbove k)) Sound) (lt-ltb S (startAt starts k + demandAt demands k .width) above))
+      (ap (λ (b : Bool). cond b Sound (Refused (EndAbove k))) (lt-leb (startAt starts k + demandAt demands k .width) S above))
 
   -- behind the last demand all ends have passed
   pub ends-done : length demands ≤ k → checkEnds S starts k (drop k demands) ≡ Sound

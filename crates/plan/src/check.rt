@@ -1,21 +1,22 @@
 // Starts in memory: the check of a plan.
 use crate::CheckReply;
-use placing::share_link;
+use grid::end_within;
+use meeting::share_link;
 use refusal::Refusal;
 use request::Checked;
 use request::Demand;
 use request::Request;
 use request::check_request;
 ghost use mathlib.Core.Path.{_≡_};
-ghost use mathlib.Core.Bool.{_&&_};
+ghost use mathlib.Core.Bool.{_&&_, not};
 ghost use mathlib.Core.List.{[]};
-ghost use Prim.Native.Nat.{_+_, _≤_};
-ghost use lib.Dec.{ltb};
+ghost use Prim.Native.Nat.{_+_, _≤_, _<_};
 ghost use lib.ListN.{length};
+ghost use Rattle.theory.specs.Problem.{fits};
 ghost use Rattle.request.specs.View.{view, viewDemand};
-ghost use Rattle.placing.specs.Placing.{shareLink, problemOf};
-ghost use Rattle.placing.specs.Plan.{endOfPlan};
-ghost use Rattle.plan.specs.Rows.{tooClose};
+ghost use Rattle.request.specs.Sharing.{shareLink, problemOf};
+ghost use Rattle.meeting.specs.Plan.{startAt, endOfPlan};
+ghost use Rattle.plan.specs.inner.Rows.{rowsBefore, tooClose};
 ghost use Rattle.plan.specs.CheckStarts.{checkEnds, checkClashes, checkStarts, startsReply};
 
 // Whether the plan that starts give a request is accepted, with its end, or its first fault: the request's own, then 16 where
@@ -31,7 +32,7 @@ pub fn check_starts(request: Request, starts: &[u16]) -> CheckReply
 }
 
 // The request, 16, 17, 18.
-pub(crate) fn check_plan(request: Request, starts: &[u16]) -> Checked
+fn check_plan(request: Request, starts: &[u16]) -> Checked
     ensures { λ r. ⌜ r ≡ checkStarts (view request) (now (starts .entry)) ⌝ }
 {
     let sound = check_request(request);
@@ -48,7 +49,7 @@ pub(crate) fn check_plan(request: Request, starts: &[u16]) -> Checked
     check_clashes(request, starts)
 }
 
-// 17 at the lowest listing position whose end is above the slot count.
+// 17 at the first demand, as listed, that ends above the slot count.
 fn check_ends(request: Request, starts: &[u16]) -> Checked
     requires { ⌜ request .«demand_count» ≤ 200 ⌝ }
     requires { ⌜ request .«demand_count» ≤ length (now starts) ⌝ }
@@ -59,7 +60,8 @@ fn check_ends(request: Request, starts: &[u16]) -> Checked
     let mut k = 0;
     while k < count {
         let demand = request.demands[k];
-        if end_above(starts[k], demand.width, slots) {
+        let start = starts[k];
+        if !end_within(slots, start as u64, demand.width) {
             return Checked::Refused(Refusal::EndAbove(k));
         }
         k += 1;
@@ -67,35 +69,41 @@ fn check_ends(request: Request, starts: &[u16]) -> Checked
     Checked::Sound
 }
 
-// Whether a block ends above the slot count: summed in 32 bits, where it never wraps.
-pub(crate) fn end_above(start: u16, width: u16, slots: u16) -> bool
-    ensures { λ r. ⌜ r ≡ ltb slots (start + width) ⌝ }
-{
-    (slots as u32) < start as u32 + width as u32
-}
-
 // 18 at the first demand, by listing position, that clashes with one before it.
-pub(crate) fn check_clashes(request: Request, starts: &[u16]) -> Checked
+fn check_clashes(request: Request, starts: &[u16]) -> Checked
     requires { ⌜ request .«demand_count» ≤ 200 ⌝ }
     requires { ⌜ request .«demand_count» ≤ length (now starts) ⌝ }
     ensures { λ r. ⌜ r ≡ checkClashes (problemOf (view request)) (now (starts .entry)) [] 0 (view request .demands) ⌝ }
 {
     let count = request.demand_count;
-    let guard = request.band.guard;
     let mut k = 0;
     while k < count {
-        let demand = request.demands[k];
-        let mut j = k;
-        while 0 < j {
-            let earlier = request.demands[j - 1];
-            if clash(earlier, starts[j - 1], demand, starts[k], guard) {
-                return Checked::Refused(Refusal::Clash(k));
-            }
-            j -= 1;
+        if clashes_before(request, starts, k) {
+            return Checked::Refused(Refusal::Clash(k));
         }
         k += 1;
     }
     Checked::Sound
+}
+
+// Whether a demand clashes, at its start, with one listed before it: the nearest is looked at first.
+fn clashes_before(request: Request, starts: &[u16], k: usize) -> bool
+    requires { ⌜ request .«demand_count» ≤ 200 ⌝ }
+    requires { ⌜ request .«demand_count» ≤ length (now starts) ⌝ }
+    requires { ⌜ k < request .«demand_count» ⌝ }
+    ensures { λ r. ⌜ r ≡ not (fits (problemOf (view request)) (rowsBefore (now (starts .entry)) k) k (startAt (now (starts .entry)) k)) ⌝ }
+{
+    let guard = request.band.guard;
+    let demand = request.demands[k];
+    let mut j = k;
+    while 0 < j {
+        let earlier = request.demands[j - 1];
+        if clash(earlier, starts[j - 1], demand, starts[k], guard) {
+            return true;
+        }
+        j -= 1;
+    }
+    false
 }
 
 // Whether two demands clash: they stand too close and share a link. The routes are looked at only where they stand too close.
@@ -120,8 +128,8 @@ fn too_close(first: u16, width: u16, second: u16, breadth: u16, guard: u8) -> bo
     }
 }
 
-// The plan's end: the largest end, 0 when there is no demand.
-pub(crate) fn plan_end(request: Request, starts: &[u16]) -> u16
+// The plan's end: the highest of its ends, or 0 without demands.
+fn plan_end(request: Request, starts: &[u16]) -> u16
     requires { ⌜ request .«demand_count» ≤ 200 ⌝ }
     requires { ⌜ request .«demand_count» ≤ length (now starts) ⌝ }
     requires { ⌜ checkEnds (request .band .slots) (now starts) 0 (view request .demands) ≡ Checked.Sound ⌝ }

@@ -5,7 +5,7 @@ ghost use Rattle.refusal.specs.Refusal.{numberOf, placeOf};
 // Why an input was refused. What a place counts is said at the call that gives it: a byte offset in a file, a listing position
 // in memory, an index, or a count.
 pub enum Refusal {
-    // 1: a field runs past the end of the file.
+    // 1: a field of which the file has not all bytes.
     PastEnd(usize),
     // 2: a tag in a place where it may not be, or a request file that ends before it has a band and a link; in memory: no link.
     WrongTag(usize),
@@ -13,7 +13,7 @@ pub enum Refusal {
     WrongLength(usize),
     // 4: a number of the band is outside its range.
     BandOutside(usize),
-    // 5: one link too many, or a link from a node to itself.
+    // 5: one link too many, or a link that ends where it begins.
     BadLink(usize),
     // 6: one demand too many.
     TooManyDemands(usize),
@@ -29,19 +29,19 @@ pub enum Refusal {
     TooManyToSearch(usize),
     // 12: not an order of the demands.
     NotAnOrder(usize),
-    // 13: first fit finds no start; the place is the demand's listing position.
+    // 13: first fit has no start for a demand; the place is its listing position.
     NoStart(usize),
     // 14: a plan row whose ident no demand has.
     UnknownIdent(usize),
     // 15: a plan row whose ident an earlier row has.
     IdentSeen(usize),
-    // 16: a demand without a start.
+    // 16: a demand that has no start.
     NoRow(usize),
     // 17: an end above the slot count.
     EndAbove(usize),
-    // 18: two demands that share a link stand too close.
+    // 18: two demands with a link in common stand too close.
     Clash(usize),
-    // 19: no block of the band has these grid numbers.
+    // 19: these grid numbers belong to no block inside the band.
     NoBlock(usize),
     // 20: a file above its limit; the place is the limit.
     FileTooLong(usize),

@@ -1,5 +1,5 @@
-// Makes any call of the library from bytes on standard input and prints one line for each, so that a program in any language can
-// test every call, lent buffers included. A frame is the call's number (1 byte), the length of its body (4 bytes) and the body. All
+// Makes the calls that docs/REPLAY.md numbers from bytes on standard input and prints one line for each, so that a program in any
+// language can test them, lent buffers included. A frame is the call's number (1 byte), the length of its body (4 bytes) and the body. All
 // numbers stand with their high byte first.
 use buffers::held_bytes;
 use input::Body;

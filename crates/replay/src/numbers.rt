@@ -2,7 +2,6 @@
 // where the position reached is its length or is not.
 ghost use mathlib.Core.Path.{_≡_};
 ghost use Prim.Native.Nat.{_+_, _*_, min};
-ghost use lib.ListN.{getD};
 
 // The position `count` bytes on.
 pub(crate) fn next(at: usize, count: usize) -> usize

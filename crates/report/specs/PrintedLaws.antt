@@ -1,8 +1,8 @@
 -- Where there is a plan, a row is printed for each demand: none is left out.
 use Prim.Native.Nat.{ℕ, zero, suc, _+_, _≤_, _<_}
-use mathlib.Core.List.{List, [], _∷_, _++_}
+use mathlib.Core.List.{List, [], _++_}
 use mathlib.Core.Logic.{_⊎_, ⊎-elim}
-use mathlib.Core.Path.{_≡_, refl, sym, ap, ap₂, subst, _∙_}
+use mathlib.Core.Path.{_≡_, ap, ap₂, subst, _∙_}
 use native.Mathlib.Omega.{arith}
 use native.Mathlib.Numerals.{add-one}
 use borrow.Author.Tests.{leb-true, leb-false}
@@ -22,15 +22,15 @@ use Rattle.request.specs.Whole.{Whole}
 use Rattle.request.specs.Sound.{SoundRequest}
 use Rattle.request.specs.SoundLaws.{check-sound, whole-counted}
 use Rattle.request.specs.LimitsLaws.{checked-limits}
-use Rattle.placing.specs.Placing.{problemOf}
-use Rattle.placing.specs.Plan.{startAt, AllowedPlan}
-use Rattle.placing.specs.PlanLaws.{slots-to-ends}
+use Rattle.request.specs.Sharing.{problemOf}
+use Rattle.meeting.specs.Plan.{startAt, startsOf}
+use Rattle.meeting.specs.PlanLaws.{slots-to-ends}
 use Rattle.search.specs.declared.Outcome.{Outcome}
 use Rattle.search.specs.declared.Outcome.the-variants.{Finished, Unfinished}
 use Rattle.search.specs.declared.Answer.{Answer}
 use Rattle.search.specs.declared.SearchReply.{SearchReply}
 use Rattle.search.specs.declared.SearchReply.the-variants as reply
-use Rattle.search.specs.Reply.{searched, checkSearch, startsOf, searchReply, startsAfter, orderAfter}
+use Rattle.search.specs.Reply.{searched, checkSearch, searchReply, startsAfter, orderAfter}
 use Rattle.search.specs.ReplyLaws.{passed-searchable}
 use Rattle.search.specs.Demand3.{PlanShown, Promised}
 use Rattle.search.specs.Demand3Laws.{answer-given, demand3}

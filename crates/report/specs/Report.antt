@@ -6,10 +6,9 @@ use Rattle.refusal.specs.declared.Refusal.{Refusal}
 use Rattle.refusal.specs.Refusal.{numberOf, placeOf}
 use Rattle.request.specs.declared.Checked.{Checked}
 use Rattle.request.specs.declared.Checked.the-variants as checked
-use Rattle.request.specs.declared.Reading.{Reading}
 use Rattle.request.specs.View.{View, view}
-use Rattle.request.specs.Reading.{readFile}
-use Rattle.request.specs.Packing.{packReading}
+use Rattle.reading.specs.Reading.{readFile}
+use Rattle.reading.specs.FilePacking.{packReading}
 use Rattle.search.specs.declared.Outcome.{Outcome}
 use Rattle.search.specs.declared.Outcome.the-variants.{Finished, NothingFits, Unfinished, UnfinishedEmpty}
 use Rattle.search.specs.declared.Answer.{Answer}

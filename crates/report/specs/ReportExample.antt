@@ -7,9 +7,10 @@ use Rattle.theory.specs.Orders.{listing}
 use Rattle.theory.specs.Problem as problem
 use Rattle.grid.specs.Grid.{frequencyReply}
 use Rattle.request.specs.View.{view}
-use Rattle.request.specs.Reading.{readFile}
-use Rattle.request.specs.Packing.{packReading}
-use Rattle.placing.specs.Placing.{problemOf, boundOf}
+use Rattle.reading.specs.Reading.{readFile}
+use Rattle.reading.specs.FilePacking.{packReading}
+use Rattle.request.specs.Sharing.{problemOf}
+use Rattle.meeting.specs.Bound.{boundOf}
 use Rattle.search.specs.Reply.{outcomeEnd, searchReply, startsAfter}
 use Rattle.report.specs.Text.{decimal, decimalSigned}
 use Rattle.report.specs.Lines.{finished-word, end-name, bound-name, steps-name, reached-name, ruled-name, space, newline, named, namedSigned, answerLine, rowLine}

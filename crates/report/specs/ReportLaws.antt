@@ -1,31 +1,23 @@
 -- What is printed, case by case.
 use Prim.Native.Nat.{ℕ, _≤_}
-use mathlib.Core.Bool.{Bool, true, false, cond}
 use mathlib.Core.List.{List, [], _++_, append-nil}
 use mathlib.Core.Path.{_≡_, refl, ap, sym, _∙_}
 use native.Mathlib.Omega.{arith}
-use borrow.Author.Tests.{ltb-true, ltb-false}
-use lib.Dec.{ltb}
-use Rattle.theory.specs.TestLaws.{by-test}
 use Rattle.theory.specs.Search as theory
 use Rattle.refusal.specs.declared.Refusal.{Refusal}
-use Rattle.refusal.specs.declared.Refusal.the-variants.{BufferShort, TooManyToSearch}
 use Rattle.request.specs.declared.Request.{Request}
 use Rattle.request.specs.declared.Checked.{Checked}
 use Rattle.request.specs.declared.Checked.the-variants as checked
-use Rattle.request.specs.declared.Reading.{Reading}
+use Rattle.reading.specs.declared.Reading.{Reading}
 use Rattle.request.specs.View.{View, view}
-use Rattle.request.specs.Check.{then, check}
-use Rattle.request.specs.CheckLaws.{first-sound, next-sound}
-use Rattle.request.specs.Reading.{readFile}
-use Rattle.request.specs.Packing.{packReading}
+use Rattle.reading.specs.Reading.{readFile}
+use Rattle.reading.specs.FilePacking.{packReading}
 use Rattle.search.specs.declared.Outcome.{Outcome}
-use Rattle.search.specs.declared.Outcome.the-variants.{Finished, NothingFits, Unfinished, UnfinishedEmpty}
 use Rattle.search.specs.declared.Answer.{Answer}
 use Rattle.search.specs.declared.SearchReply.{SearchReply}
 use Rattle.search.specs.declared.SearchReply.the-variants as reply
 use Rattle.search.specs.Reply.{outcomeEnd, checkSearch, replyTo, searched, searchReply, startsAfter}
-use Rattle.search.specs.ReplyLaws.{passed-starts}
+use Rattle.search.specs.ReplyLaws.{passed-searchable}
 use Rattle.report.specs.declared.Page.{Page}
 use Rattle.report.specs.Text.{appended, pageOf}
 use Rattle.report.specs.TextLaws.{appended-twice}
@@ -58,11 +50,11 @@ unfolding replyTo
 answered-sound checked.Sound found a h = refl
 answered-sound (checked.Refused why) found a h = absurd (let no : _≡_ {A = ℕ} 0 1 = cc in omega arith)
 
--- an answer is of no more demands than the starts have room for
-pub answered-few : (v : View) (limit starts order : ℕ) (a : Answer) → searchReply v limit starts order ≡ reply.Answered a → v .demandCount ≤ starts
+-- an answer is of at most 20 demands
+pub answered-few : (v : View) (limit starts order : ℕ) (a : Answer) → searchReply v limit starts order ≡ reply.Answered a → v .demandCount ≤ 20
 unfolding searchReply
 answered-few v limit starts order a h =
-    passed-starts v starts order (answered-sound (checkSearch v starts order) (searched v limit) a h)
+    passed-searchable v starts order (answered-sound (checkSearch v starts order) (searched v limit) a h) .few
 
 -- a request that is answered
 pub request-answered : {r : Page} (q : Request) (starts : List ℕ) (a : Answer) →

@@ -18,7 +18,7 @@ use Rattle.grid.specs.ReplyLaws.{frequency-centred}
 use Rattle.grid.specs.GridLaws.{centres}
 use Rattle.grid.specs.SignedLaws.{mag-sum, mag-6250}
 use Rattle.request.specs.declared.Request.{Request}
-use Rattle.request.specs.View.{DemandView, View, view, viewDemand, demandAt, noDemand}
+use Rattle.request.specs.View.{DemandView, View, view, viewDemand, demandAt, noDemand, noEntry}
 use Rattle.request.specs.Sound.{SoundRequest}
 use Rattle.request.specs.ViewLaws.{demands-shown, demand-shown}
 use Rattle.report.specs.declared.Page.{Page}
@@ -62,13 +62,13 @@ row-none band d start why h = ap (centredRow (d .ident) start (start + d .width)
 -- the row at a listing position is put on, and those behind it are left
 pub row-on : {after : Page} (r : Request) (starts : List ℕ) (k : ℕ) (page : Page) → length (r .demands) ≡ 200 → length starts ≡ 20 →
     r .«demand_count» ≤ 20 → k < r .«demand_count» →
-    after ≡ appended page (demandRow (r .band) (viewDemand (getD (r .demands) k (record { ident = 0; width = 0; hops = 0; links = [] }))) (getD starts k 0)) →
+    after ≡ appended page (demandRow (r .band) (viewDemand (getD (r .demands) k noEntry)) (getD starts k 0)) →
     appended after (rows (r .band) (drop (k + 1) (view r .demands)) (drop (k + 1) starts))
     ≡ appended page (rows (r .band) (drop k (view r .demands)) (drop k starts))
 row-on r starts k page all all-starts few h e =
     let demands = view r .demands in
     let rest = rows (r .band) (drop (k + 1) demands) (drop (k + 1) starts) in
-    let row = demandRow (r .band) (viewDemand (getD (r .demands) k (record { ident = 0; width = 0; hops = 0; links = [] }))) (getD starts k 0) in
+    let row = demandRow (r .band) (viewDemand (getD (r .demands) k noEntry)) (getD starts k 0) in
     ap (λ (p : Page). appended p rest) e ∙ appended-twice page row rest
     ∙ ap (appended page)
     (ap (λ (d : DemandView). demandRow (r .band) d (getD starts k 0) ++ rest) (sym (demand-shown r k h))

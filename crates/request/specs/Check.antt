@@ -4,6 +4,7 @@ use mathlib.Core.Bool.{Bool, true, false, cond, not, _&&_, _||_}
 use mathlib.Core.List.{List, [], _∷_, _++_}
 use lib.ListN.{length}
 use lib.Dec.{leb, ltb, eqb}
+use Rattle.refusal.specs.declared.Refusal.{Refusal}
 use Rattle.refusal.specs.declared.Refusal.the-variants.{WrongTag, WrongLength, BandOutside, BadLink, TooManyDemands, BadRoute, IdentUsed, BadWidth}
 use Rattle.grid.specs.declared.Band.{Band}
 use Rattle.grid.specs.Grid.{allowedBand, allowedWidth}
@@ -17,6 +18,10 @@ unfoldable pub then : Checked → Checked → Checked
 then Sound next = next
 then (Refused why) next = Refused why
 
+-- a check: sound where its test holds, else this refusal
+unfoldable pub must : Bool → Refusal → Checked
+must test why = cond test Sound (Refused why)
+
 -- a number stands in a list
 unfoldable pub has : ℕ → List ℕ → Bool
 has x [] = false
@@ -27,7 +32,7 @@ unfoldable pub listed : ℕ → List ℕ → Bool
 listed n [] = true
 listed n (a ∷ route) = ltb a n && listed n route
 
--- no link stands twice in a route
+-- no link comes again later in a route
 unfoldable pub once : List ℕ → Bool
 unfolding has
 once [] = true
@@ -58,7 +63,7 @@ checkBand band = cond (allowedBand band) Sound (Refused (BandOutside 0))
 unfoldable pub checkSomeLink : ℕ → Checked
 checkSomeLink count = cond (eqb count 0) (Refused (WrongTag 0)) Sound
 
--- 5 at a link from a node to itself, the links one by one
+-- 5 at a link that ends where it begins, the links one by one
 unfoldable pub checkLinks : ℕ → List Link → Checked
 unfolding then
 checkLinks k [] = Sound

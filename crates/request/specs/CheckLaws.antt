@@ -7,7 +7,7 @@ use mathlib.Core.Path.{_≡_, refl, sym, _∙_, ap}
 use native.Mathlib.Omega.{arith}
 use native.Mathlib.Numerals.{add-one}
 use borrow.Author.Tests.{ltb-true, ltb-false, lt-ltb, le-ltb, eq-eqb, ne-eqb, leb-true}
-use lib.ListN.{length, drop, drop-of-length-le}
+use lib.ListN.{length, take, drop, drop-of-length-le}
 use lib.Seq.{drop-cons}
 use lib.Dec.{leb, ltb, eqb}
 use Rattle.refusal.specs.declared.Refusal.{Refusal}
@@ -15,12 +15,15 @@ use Rattle.refusal.specs.declared.Refusal.the-variants.{WrongTag, WrongLength, 
 use Rattle.grid.specs.declared.Band.{Band}
 use Rattle.grid.specs.Grid.{allowedBand, allowedWidth}
 use Rattle.request.specs.declared.Link.{Link}
+use Rattle.request.specs.declared.Demand.{Demand}
+use Rattle.request.specs.declared.DemandTests.{DemandTests}
 use Rattle.request.specs.declared.Request.{Request}
 use Rattle.request.specs.declared.Checked.{Checked}
 use Rattle.request.specs.declared.Checked.the-variants.{Sound, Refused}
-use Rattle.request.specs.View.{DemandView, linkAt, noLink, demandAt, noDemand, view}
+use Rattle.request.specs.View.{DemandView, linkAt, noLink, demandAt, noDemand, viewDemand, view}
 use Rattle.theory.specs.TestLaws.{by-test, and-first, and-second}
-use Rattle.request.specs.Check.{then, has, soundRoute, allowedHops, checkBand, checkSomeLink, checkLinks, checkLinkCount, checkDemand, checkDemands, checkDemandCount, check}
+use Rattle.request.specs.Check.{then, has, soundRoute, allowedHops, checkBand, checkSomeLink, checkLinks, checkLinkCount, checkDemand, checkDemands, checkDemandCount, check, must}
+use Rattle.request.specs.DemandTest.{demandTests}
 
 -- after a check that passes comes the next
 pub then-sound : (a next : Checked) → a ≡ Sound → then a next ≡ next
@@ -208,3 +211,19 @@ demands-end S links earlier demands k h = rw (drop-of-length-le demands h)
 -- requests that look the same get the same answer: two results of `check_request` are equal
 pub same-answer : (r r′ : Request) (a a′ : Checked) → view r ≡ view r′ → a ≡ check (view r) → a′ ≡ check (view r′) → a ≡ a′
 same-answer r r′ a a′ same h h′ = h ∙ (ap check same ∙ sym h′)
+
+-- two results of the tests of a demand are equal
+pub same-tests : (S : ℕ) (links : List Link) (count : ℕ) (earlier : List ℕ) (d : Demand) (a b : DemandTests) →
+    a ≡ demandTests S (take count links) earlier (viewDemand d) → b ≡ demandTests S (take count links) earlier (viewDemand d) → a ≡ b
+same-tests S links count earlier d a b ha hb = ha ∙ sym hb
+
+-- a check is sound or refused, and which of the two is known
+pub by-check : {C : Type 0} (answer : Checked) → (answer ≡ Sound → C) → ((why : Refusal) → answer ≡ Refused why → C) → C
+by-check Sound sound refused = sound refl
+by-check (Refused why) sound refused = refused why refl
+
+-- a test that is sound holds
+pub test-held : (test : Bool) (why : Refusal) → must test why ≡ Sound → test ≡ true
+unfolding must
+test-held true why e = refl
+test-held false why e = absurd (let z : _≡_ {A = ℕ} 0 1 = cc in omega arith)

@@ -1,5 +1,5 @@
 -- A request as a file: fields of a tag in one byte, a length in two and a body; numbers stand with their high byte first.
-use Prim.Native.Nat.{ℕ, _+_, _-_, _*_, _/_, _%_}
+use Prim.Native.Nat.{ℕ, _+_, _-_, _/_, _%_}
 use mathlib.Core.Bool.{cond}
 use mathlib.Core.List.{List, [], _∷_, _++_}
 use lib.ListN.{length}

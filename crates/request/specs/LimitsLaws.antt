@@ -1,7 +1,6 @@
 -- A sound request keeps its limits.
 use Prim.Native.Nat.{ℕ, _≤_, _<_}
 use mathlib.Core.Bool.{true, _&&_}
-use mathlib.Core.List.{[]}
 use mathlib.Core.Path.{_≡_}
 use native.Mathlib.Omega.{arith}
 use borrow.Author.Tests.{leb-true}
@@ -12,11 +11,11 @@ use Rattle.grid.specs.declared.Band.{Band}
 use Rattle.grid.specs.Grid.{allowedEdge, allowedSlots, allowedGuard, allowedBand}
 use Rattle.request.specs.declared.Request.{Request}
 use Rattle.request.specs.declared.Checked.the-variants.{Sound}
-use Rattle.request.specs.View.{View, viewDemand, view, linkAt}
+use Rattle.request.specs.View.{View, viewDemand, view, linkAt, noEntry}
 use Rattle.request.specs.Check.{check}
 use Rattle.request.specs.Sound.{SoundDemand, SoundRequest}
 use Rattle.request.specs.Whole.{Whole, Counted}
-use Rattle.request.specs.Limits.{Limits, AllLimits}
+use Rattle.request.specs.inner.Limits.{Limits, AllLimits}
 use Rattle.theory.specs.TestLaws.{and-first, and-second}
 use Rattle.request.specs.ViewLaws.{demand-shown}
 use Rattle.request.specs.SoundLaws.{check-sound, whole-counted}
@@ -64,7 +63,7 @@ checked-demands r whole sound =
     let is-sound = check-sound (view r) (whole-counted r whole) sound in
     record {
       each = λ (k : ℕ) (h : k < r .«demand_count»).
-          let d = getD (r .demands) k (record { ident = 0; width = 0; hops = 0; links = [] }) in
+          let d = getD (r .demands) k noEntry in
           let limits : SoundDemand (r .band .slots) (r .«link_count») (linkAt (view r .links)) (viewDemand d)
           = rw (demand-shown r k h) at (is-sound .demands-sound k h) in
           record {

@@ -5,12 +5,7 @@ use lib.ListN.{length, replicate}
 use lib.IntN.{pos}
 use Rattle.request.specs.declared.Demand.{Demand}
 use Rattle.request.specs.declared.Request.{Request}
-use Rattle.request.specs.declared.Checked.the-variants.{Sound, Refused}
-use Rattle.request.specs.declared.Reading.{Reading}
-use Rattle.request.specs.declared.read.LinksFound.{LinksFound}
-use Rattle.request.specs.declared.read.DemandsFound.{DemandsFound}
 use Rattle.request.specs.View.{DemandView, View, noLink}
-use Rattle.request.specs.Reading.{FileReading, refused, accepted, LinksRead, linksRefused, linksRead, DemandsRead, demandsRefused, demandsRead}
 
 -- a list made as long as an array by an empty entry
 unfoldable pub padded : {A : Type 0} → ℕ → A → List A → List A
@@ -48,22 +43,3 @@ pack v =
       «demand_count» = v .demandCount;
       demands = padded 200 emptyDemand (map packDemand (v .demands));
     }
-
--- what reading gives: a refusal beside the empty request, or the request
-unfoldable pub packReading : FileReading → Reading
-unfolding emptyRequest pack
-packReading (refused why) = record { verdict = Refused why; request = emptyRequest }
-packReading (accepted v) = record { verdict = Sound; request = pack v }
-
--- the same of the links alone
-unfoldable pub packLinks : LinksRead → LinksFound
-unfolding padded noLink
-packLinks (linksRefused why) = record { verdict = Refused why; count = 0; end = 0; links = replicate 64 noLink }
-packLinks (linksRead links at) = record { verdict = Sound; count = length links; end = at; links = padded 64 noLink links }
-
--- and of the demands alone
-unfoldable pub packDemands : DemandsRead → DemandsFound
-unfolding padded emptyDemand packDemand
-packDemands (demandsRefused why) = record { verdict = Refused why; count = 0; demands = replicate 200 emptyDemand }
-packDemands (demandsRead demands) =
-    record { verdict = Sound; count = length demands; demands = padded 200 emptyDemand (map packDemand demands) }

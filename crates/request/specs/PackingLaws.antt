@@ -6,8 +6,10 @@ use native.Mathlib.Omega.{arith}
 use native.Mathlib.Numerals.{add-one}
 use lib.ListN.{length, getD, take, drop, set, replicate, length-append, length-replicate, length-drop}
 use lib.Seq.{take-append-seam, set-append-seam, length-take-le, take-suc, getD-drop}
+use Rattle.request.specs.declared.Demand.{Demand}
+use Rattle.request.specs.declared.Request.{Request}
 use Rattle.request.specs.View.{DemandView, viewDemand}
-use Rattle.request.specs.Packing.{padded, packDemand}
+use Rattle.request.specs.Packing.{padded, emptyDemand, emptyRequest, packDemand}
 
 module _ {A : Type 0} (size : ℕ) (empty : A) where
   -- an array is as long as it is
@@ -48,3 +50,11 @@ route-step s from i within room =
     ap (padded 32 0)
     (ap (λ (b : ℕ). take i (drop from s) ++ (b ∷ [])) (sym (getD-drop from s i 0)) ∙
     sym (rw (add-one i) (take-suc (drop from s) i 0 longer)))
+
+-- two empty demands are equal
+pub same-empty-demand : (a b : Demand) → a ≡ emptyDemand → b ≡ emptyDemand → a ≡ b
+same-empty-demand a b ha hb = ha ∙ sym hb
+
+-- two empty requests are equal
+pub same-empty : (a b : Request) → a ≡ emptyRequest → b ≡ emptyRequest → a ≡ b
+same-empty a b ha hb = ha ∙ sym hb

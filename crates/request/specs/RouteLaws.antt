@@ -14,7 +14,7 @@ use lib.Dec.{ltb, eqb}
 use Rattle.request.specs.declared.Link.{Link}
 use Rattle.request.specs.View.{linkAt}
 use Rattle.request.specs.Check.{has, listed, once, unbroken, soundRoute}
-use Rattle.request.specs.Route.{RouteHolds, RouteCome}
+use Rattle.request.specs.inner.Route.{RouteHolds, RouteCome}
 use Rattle.theory.specs.TestLaws.{by-test, not-both, not-true-false, and-first, and-second, and-both, or-neither, or-first, or-second}
 
 -- a number that no position has does not stand in a list

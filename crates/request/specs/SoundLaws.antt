@@ -6,7 +6,7 @@ use mathlib.Core.Logic.{_≢_}
 use mathlib.Core.Path.{_≡_, refl, sym, _∙_, ap}
 use native.Mathlib.Omega.{arith}
 use borrow.Author.Tests.{le-leb, eqb-false, ne-eqb, ltb-false}
-use lib.ListN.{length, take, getD, length-map, List·getD-map}
+use lib.ListN.{length, take, getD}
 use lib.Seq.{length-take-le}
 use lib.Dec.{leb, ltb, eqb}
 use Rattle.refusal.specs.declared.Refusal.{Refusal}
@@ -16,14 +16,14 @@ use Rattle.request.specs.declared.Link.{Link}
 use Rattle.request.specs.declared.Request.{Request}
 use Rattle.request.specs.declared.Checked.{Checked}
 use Rattle.request.specs.declared.Checked.the-variants.{Sound, Refused}
-use Rattle.request.specs.View.{DemandView, View, view, viewDemand, linkAt, demandAt, noDemand}
+use Rattle.request.specs.View.{DemandView, View, view, viewDemand, linkAt, demandAt, noEntry, idents}
 use Rattle.request.specs.Check.{then, has, soundRoute, allowedHops, checkBand, checkSomeLink, checkLinks, checkLinkCount, checkDemand, checkDemands, checkDemandCount, check}
 use Rattle.request.specs.Sound.{SoundDemand, SoundRequest}
-use Rattle.request.specs.Route.{RouteHolds}
-use Rattle.request.specs.Passes.{identsOf, Passes}
+use Rattle.request.specs.inner.Route.{RouteHolds}
+use Rattle.request.specs.inner.Passes.{Passes}
 use Rattle.request.specs.Whole.{Whole, Counted}
 use Rattle.theory.specs.TestLaws.{and-both}
-use Rattle.request.specs.ViewLaws.{links-shown, demands-shown, demand-shown}
+use Rattle.request.specs.ViewLaws.{links-shown, demands-shown, demand-shown, idents-length, ident-at}
 use Rattle.request.specs.RouteLaws.{none-early, early-none, sound-holds, holds-sound}
 use Rattle.request.specs.CheckLaws.{then-sound, first-sound, next-sound, band-passes, some-link, few-links, links-counted, few-demands, width-allowed, hops-allowed, demand-passes}
 
@@ -85,23 +85,23 @@ sound-passes S links earlier i d sound =
 -- where the demands pass, each passes after the idents before it
 demands-each : (S : ℕ) (links : List Link) (earlier : List ℕ) (i : ℕ) (demands : List DemandView) →
     checkDemands S links earlier i demands ≡ Sound → (k : ℕ) → k < length demands →
-    Passes S links (earlier ++ take k (identsOf demands)) (demandAt demands k)
-unfolding checkDemands demandAt
+    Passes S links (earlier ++ take k (idents demands)) (demandAt demands k)
+unfolding checkDemands demandAt idents
 demands-each S links earlier i [] sound k h = absurd (omega arith)
 demands-each S links earlier i (d ∷ demands) sound zero h =
     rw (append-nil earlier)
     (sound-passes S links earlier i d
     (first-sound (checkDemand S links earlier i d) (checkDemands S links (earlier ++ (d .ident ∷ [])) (i + 1) demands) sound))
 demands-each S links earlier i (d ∷ demands) sound (suc k) h =
-    rw (append-assoc earlier (d .ident ∷ []) (take k (identsOf demands))) at
+    rw (append-assoc earlier (d .ident ∷ []) (take k (idents demands))) at
     (demands-each S links (earlier ++ (d .ident ∷ [])) (i + 1) demands
     (next-sound (checkDemand S links earlier i d) (checkDemands S links (earlier ++ (d .ident ∷ [])) (i + 1) demands) sound) k (omega arith))
 
 -- demands that each pass after the idents before them pass together
 each-demands : (S : ℕ) (links : List Link) (earlier : List ℕ) (i : ℕ) (demands : List DemandView) →
-    ((k : ℕ) → k < length demands → Passes S links (earlier ++ take k (identsOf demands)) (demandAt demands k)) →
+    ((k : ℕ) → k < length demands → Passes S links (earlier ++ take k (idents demands)) (demandAt demands k)) →
     checkDemands S links earlier i demands ≡ Sound
-unfolding checkDemands demandAt
+unfolding checkDemands demandAt idents
 each-demands S links earlier i [] each = refl
 each-demands S links earlier i (d ∷ demands) each =
     let here : Passes S links earlier d = rw (append-nil earlier) at (each 0 (omega arith)) in
@@ -109,16 +109,11 @@ each-demands S links earlier i (d ∷ demands) each =
     (demand-passes S links earlier i d (here .ident-new) (here .width-allowed) (here .hops-allowed) (here .route-sound)) ∙
     each-demands S links (earlier ++ (d .ident ∷ [])) (i + 1) demands
     (λ (k : ℕ) (h : k < length demands).
-    rw (append-assoc earlier (d .ident ∷ []) (take k (identsOf demands))) (each (suc k) (omega arith)))
-
--- the ident at a position of the idents is the demand's there
-ident-at : (demands : List DemandView) (k : ℕ) → getD (identsOf demands) k 0 ≡ demandAt demands k .ident
-unfolding demandAt noDemand
-ident-at demands k = List·getD-map (λ (d : DemandView). d .ident) demands k noDemand
+    rw (append-assoc earlier (d .ident ∷ []) (take k (idents demands))) (each (suc k) (omega arith)))
 
 -- there are as many idents as demands
-idents-within : (demands : List DemandView) (k : ℕ) → k < length demands → k ≤ length (identsOf demands)
-idents-within demands k h = omega (arith, length-map demands (λ (d : DemandView). d .ident))
+idents-within : (demands : List DemandView) (k : ℕ) → k < length demands → k ≤ length (idents demands)
+idents-within demands k h = omega (arith, idents-length demands)
 
 -- a demand that passes is sound, if its route is as long as it says
 passes-sound : (S count : ℕ) (links : List Link) (earlier : List ℕ) (d : DemandView) → length links ≡ count →
@@ -200,11 +195,11 @@ check-sound v counted sound =
       at-most-200-demands = few-demands;
       idents-once =
           λ (j k : ℕ) (jk : j < k) (h : k < v .demandCount) (same : demandAt (v .demands) j .ident ≡ demandAt (v .demands) k .ident).
-          early-none (demandAt (v .demands) k .ident) (identsOf (v .demands)) k (idents-within (v .demands) k (omega arith))
+          early-none (demandAt (v .demands) k .ident) (idents (v .demands)) k (idents-within (v .demands) k (omega arith))
           (passes k (omega arith) .ident-new) j jk (sym same ∙ sym (ident-at (v .demands) j));
       demands-sound =
           λ (k : ℕ) (h : k < v .demandCount).
-          passes-sound (v .band .slots) (v .linkCount) (v .links) (take k (identsOf (v .demands))) (demandAt (v .demands) k) all
+          passes-sound (v .band .slots) (v .linkCount) (v .links) (take k (idents (v .demands))) (demandAt (v .demands) k) all
           (counted .routes-counted k (omega arith)) (passes k (omega arith));
     }
 
@@ -223,10 +218,10 @@ sound-check v counted sound =
     (each-demands (v .band .slots) (v .links) [] 0 (v .demands)
     (λ (k : ℕ) (h : k < length (v .demands)).
     let within : k < v .demandCount = omega arith in
-    sound-demand-passes (v .band .slots) (v .linkCount) (v .links) (take k (identsOf (v .demands))) (demandAt (v .demands) k) all
+    sound-demand-passes (v .band .slots) (v .linkCount) (v .links) (take k (idents (v .demands))) (demandAt (v .demands) k) all
     (counted .routes-counted k h)
-    (none-early (demandAt (v .demands) k .ident) (identsOf (v .demands)) k (idents-within (v .demands) k (omega arith))
-    (λ (j : ℕ) (jk : j < k) (same : demandAt (v .demands) k .ident ≡ getD (identsOf (v .demands)) j 0).
+    (none-early (demandAt (v .demands) k .ident) (idents (v .demands)) k (idents-within (v .demands) k (omega arith))
+    (λ (j : ℕ) (jk : j < k) (same : demandAt (v .demands) k .ident ≡ getD (idents (v .demands)) j 0).
     sound .idents-once j k jk within (sym (same ∙ ident-at (v .demands) j))))
     (sound .demands-sound k within)))
     (few-demands (v .demandCount) (sound .at-most-200-demands))
@@ -241,7 +236,7 @@ whole-counted r whole =
       routes-counted =
           λ (k : ℕ) (h : k < length (view r .demands)) (short : demandAt (view r .demands) k .hops ≤ 32).
           let shown = demand-shown r k (omega (arith, demands-shown r)) in
-          let demand = getD (r .demands) k (record { ident = 0; width = 0; hops = 0; links = [] }) in
+          let demand = getD (r .demands) k noEntry in
           let room = whole .all-hops k (omega (arith, demands-shown r, whole .all-demands)) in
           rw shown (length-take-le (demand .hops) (demand .links) (omega (arith, rw shown at short)));
     }

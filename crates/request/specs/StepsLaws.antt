@@ -3,7 +3,7 @@ use Prim.Native.Nat.{ℕ, _+_, _≤_, _<_}
 use mathlib.Core.Bool.{true, false}
 use mathlib.Core.List.{List, [], _∷_, _++_}
 use mathlib.Core.Logic.{_≢_}
-use mathlib.Core.Path.{_≡_, _∙_, ap}
+use mathlib.Core.Path.{_≡_, sym, _∙_, ap}
 use native.Mathlib.Omega.{arith}
 use native.Mathlib.Numerals.{add-one}
 use lib.ListN.{length, take, drop, getD, set, length-set}
@@ -16,9 +16,10 @@ use Rattle.request.specs.declared.Link.{Link}
 use Rattle.request.specs.declared.Request.{Request}
 use Rattle.request.specs.declared.Checked.{Checked}
 use Rattle.request.specs.declared.Checked.the-variants.{Sound, Refused}
-use Rattle.request.specs.View.{View, view, viewDemand, demandAt}
+use Rattle.request.specs.View.{View, view, viewDemand, demandAt, noEntry}
 use Rattle.request.specs.Check.{then, checkBand, checkSomeLink, checkLinks, checkLinkCount, checkDemand, checkDemands, checkDemandCount, check}
-use Rattle.request.specs.Steps.{checkAllLinks, checkGround, checkFrom, Met}
+use Rattle.request.specs.Steps.{checkAllLinks, checkGround}
+use Rattle.request.specs.inner.Met.{checkFrom, Met}
 use Rattle.request.specs.ViewLaws.{demands-shown, demand-shown}
 use Rattle.request.specs.CheckLaws.{then-sound, then-refused, then-assoc, band-passes, band-refused, no-link, some-link, too-many-links, few-links, too-many-demands, few-demands, demands-pass, demands-refused, demands-end}
 
@@ -120,7 +121,7 @@ module _ (r : Request) (idents : List ℕ) (k : ℕ) (met : Met r idents k) (all
   -- where the next demand is refused, so is the request
   pub met-refused : (why : Refusal) → k < r .«demand_count» → k < 200 →
       checkDemand (r .band .slots) (view r .links) (take k idents) k
-      (viewDemand (getD (r .demands) k (record { ident = 0; width = 0; hops = 0; links = [] }))) ≡ Refused why →
+      (viewDemand (getD (r .demands) k noEntry)) ≡ Refused why →
       check (view r) ≡ Refused why
   unfolding view checkFrom
   met-refused why more room refused =
@@ -133,11 +134,11 @@ module _ (r : Request) (idents : List ℕ) (k : ℕ) (met : Met r idents k) (all
   -- where it passes, its ident is kept and the one behind it is next
   pub met-on : k < r .«demand_count» → k < 200 →
       checkDemand (r .band .slots) (view r .links) (take k idents) k
-      (viewDemand (getD (r .demands) k (record { ident = 0; width = 0; hops = 0; links = [] }))) ≡ Sound →
-      Met r (set idents k (getD (r .demands) k (record { ident = 0; width = 0; hops = 0; links = [] }) .ident)) (k + 1)
+      (viewDemand (getD (r .demands) k noEntry)) ≡ Sound →
+      Met r (set idents k (getD (r .demands) k noEntry .ident)) (k + 1)
   unfolding view checkFrom viewDemand
   met-on more room sound =
-      let demand = getD (r .demands) k (record { ident = 0; width = 0; hops = 0; links = [] }) in
+      let demand = getD (r .demands) k noEntry in
       let at-k : demandAt (view r .demands) k ≡ viewDemand demand = demand-shown r k more in
       let kept : take (k + 1) (set idents k (demand .ident)) ≡ take k idents ++ (demand .ident ∷ [])
       = rw (add-one k) (take-suc-set idents k (demand .ident) (omega (arith, met .room))) in
@@ -153,3 +154,8 @@ module _ (r : Request) (idents : List ℕ) (k : ℕ) (met : Met r idents k) (all
             met .answer ∙
             ap (λ (c : Checked). then c (checkDemandCount (r .«demand_count»))) on;
       }
+
+-- two results of the test of the band and the links are equal
+pub same-ground : (band : Band) (count : ℕ) (links : List Link) (a b : Checked) →
+    a ≡ checkGround band count (take count links) → b ≡ checkGround band count (take count links) → a ≡ b
+same-ground band count links a b ha hb = ha ∙ sym hb

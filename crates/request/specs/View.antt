@@ -1,6 +1,6 @@
 -- A request seen as lists: what stands behind a count is not seen, and so means nothing.
 use Prim.Native.Nat.{ℕ}
-use mathlib.Core.List.{List, [], _∷_, map}
+use mathlib.Core.List.{List, [], map}
 use lib.ListN.{take, getD}
 use Rattle.grid.specs.declared.Band.{Band}
 use Rattle.request.specs.declared.Link.{Link}
@@ -46,6 +46,10 @@ noLink = record { from = 0; to = 0 }
 unfoldable pub noDemand : DemandView
 noDemand = record { ident = 0; width = 0; hops = 0; route = [] }
 
+-- what stands behind the end of an array of demands
+abbrev pub noEntry : Demand
+noEntry = record { ident = 0; width = 0; hops = 0; links = [] }
+
 -- the link of a number
 unfoldable pub linkAt : List Link → ℕ → Link
 unfolding noLink
@@ -55,3 +59,7 @@ linkAt links k = getD links k noLink
 unfoldable pub demandAt : List DemandView → ℕ → DemandView
 unfolding noDemand
 demandAt demands k = getD demands k noDemand
+
+-- the idents of some demands
+unfoldable pub idents : List DemandView → List ℕ
+idents demands = map (λ (d : DemandView). d .ident) demands

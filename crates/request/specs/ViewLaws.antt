@@ -1,13 +1,13 @@
 -- What a request's view shows: the entries before the counts, and nothing else.
 use Prim.Native.Nat.{ℕ, _≤_, _<_, min}
-use mathlib.Core.List.{List, [], map}
+use mathlib.Core.List.{List, [], map, _++_, _∷_, map-append}
 use mathlib.Core.Path.{_≡_, sym, ap, _∙_}
 use lib.ListN.{length, take, getD, length-map, length-take, List·getD-map, set}
 use lib.Seq.{getD-take, take-set-le}
 use Rattle.request.specs.declared.Link.{Link}
 use Rattle.request.specs.declared.Demand.{Demand}
 use Rattle.request.specs.declared.Request.{Request}
-use Rattle.request.specs.View.{viewDemand, view, noLink, noDemand, linkAt, demandAt}
+use Rattle.request.specs.View.{viewDemand, view, noDemand, demandAt, idents, DemandView, noEntry}
 
 -- a view has as many links as the request says, or as its array holds
 pub links-shown : (r : Request) → length (view r .links) ≡ min (r .«link_count») (length (r .links))
@@ -20,18 +20,13 @@ unfolding view
 demands-shown r =
     length-map (take (r .«demand_count») (r .demands)) viewDemand ∙ length-take (r .«demand_count») (r .demands)
 
--- the link of a number before the count is the array's
-pub link-shown : (r : Request) (k : ℕ) → k < r .«link_count» → linkAt (view r .links) k ≡ getD (r .links) k (record { from = 0; to = 0 })
-unfolding view linkAt noLink
-link-shown r k h = getD-take (r .«link_count») (r .links) k noLink h
-
 -- the demand at a position before the count is the array's
 pub demand-shown : (r : Request) (k : ℕ) → k < r .«demand_count» →
-    demandAt (view r .demands) k ≡ viewDemand (getD (r .demands) k (record { ident = 0; width = 0; hops = 0; links = [] }))
+    demandAt (view r .demands) k ≡ viewDemand (getD (r .demands) k noEntry)
 unfolding view viewDemand demandAt noDemand
 demand-shown r k h =
-    List·getD-map viewDemand (take (r .«demand_count») (r .demands)) k (record { ident = 0; width = 0; hops = 0; links = [] }) ∙
-    ap viewDemand (getD-take (r .«demand_count») (r .demands) k (record { ident = 0; width = 0; hops = 0; links = [] }) h)
+    List·getD-map viewDemand (take (r .«demand_count») (r .demands)) k noEntry ∙
+    ap viewDemand (getD-take (r .«demand_count») (r .demands) k noEntry h)
 
 -- a link behind the count may be anything
 pub link-behind : (r : Request) (k : ℕ) (l : Link) → r .«link_count» ≤ k →
@@ -54,3 +49,18 @@ hop-behind d p a h = rw (take-set-le (d .hops) (d .links) p a h)
 -- a list is as long as any list made of it entry by entry
 pub mapped-length : (X Y : Type 0) (f : X → Y) (l : List X) (n : ℕ) → length (map f l) ≡ n → length l ≡ n
 mapped-length X Y f l n h = sym (length-map l f) ∙ h
+
+-- there are as many idents as demands
+pub idents-length : (demands : List DemandView) → length (idents demands) ≡ length demands
+unfolding idents
+idents-length demands = length-map demands (λ (d : DemandView). d .ident)
+
+-- the ident at a position of the idents is the demand's there
+pub ident-at : (demands : List DemandView) (k : ℕ) → getD (idents demands) k 0 ≡ demandAt demands k .ident
+unfolding demandAt noDemand idents
+ident-at demands k = List·getD-map (λ (d : DemandView). d .ident) demands k noDemand
+
+-- one demand more has one ident more
+pub idents-more : (before : List DemandView) (d : DemandView) → idents (before ++ (d ∷ [])) ≡ idents before ++ (d .ident ∷ [])
+unfolding idents
+idents-more before d = map-append (λ (x : DemandView). x .ident) before (d ∷ [])

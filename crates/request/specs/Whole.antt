@@ -1,16 +1,15 @@
 -- A list may have any length, an array has the one of its type: what this says of requests and of their views.
 use Prim.Native.Nat.{ℕ, _≤_, _<_}
-use mathlib.Core.List.{[]}
 use mathlib.Core.Path.{_≡_}
 use lib.ListN.{length, getD}
 use Rattle.request.specs.declared.Request.{Request}
-use Rattle.request.specs.View.{View, demandAt}
+use Rattle.request.specs.View.{View, demandAt, noEntry}
 
 -- a request with arrays of their lengths: every value of the type is one
 pub record Whole (r : Request) : Type 0 where
   pub all-links : length (r .links) ≡ 64
   pub all-demands : length (r .demands) ≡ 200
-  pub all-hops : (k : ℕ) → k < 200 → length (getD (r .demands) k (record { ident = 0; width = 0; hops = 0; links = [] }) .links) ≡ 32
+  pub all-hops : (k : ℕ) → k < 200 → length (getD (r .demands) k noEntry .links) ≡ 32
 
 -- a view whose lists are as long as it says, where it says no more than an array holds
 pub record Counted (v : View) : Type 0 where

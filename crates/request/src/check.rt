@@ -3,14 +3,13 @@ use crate::Checked;
 use crate::Demand;
 use crate::Link;
 use crate::Request;
-use crate::route::sound_route;
+use crate::tests::test_demand;
 use grid::Band;
 use refusal::Refusal;
 ghost use mathlib.Core.Path.{_≡_};
 ghost use lib.ListN.{take};
-ghost use Rattle.grid.specs.Grid.{allowedWidth};
 ghost use Rattle.request.specs.View.{view, viewDemand};
-ghost use Rattle.request.specs.Check.{has, allowedHops, soundRoute, checkDemand, check};
+ghost use Rattle.request.specs.Check.{checkDemand, check};
 ghost use Rattle.request.specs.Steps.{checkAllLinks, checkGround};
 
 // Whether a request is sound, or the first fault in the order of its checks: the band, the links one by one, the demands one
@@ -45,7 +44,7 @@ pub fn check_request(request: Request) -> Checked
 }
 
 // The band and the links: 4, then 2 where there is no link, then 5 link by link.
-fn check_ground(band: Band, links: [Link; 64], count: usize) -> Checked
+pub fn check_ground(band: Band, links: [Link; 64], count: usize) -> Checked
     ensures { λ r. ⌜ r ≡ checkGround band count (take count links) ⌝ }
 {
     if band.allowed() {
@@ -76,8 +75,7 @@ fn check_links(links: [Link; 64], count: usize) -> Checked
     Checked::Sound
 }
 
-// One demand at listing position `k`, over the first `count` links and after demands of these idents. The four tests stand by
-// themselves; which of them is told first is decided here alone: 8, 9, 3, 7.
+// One demand at listing position `k`: which of its tests is told first in memory is decided here alone: 8, 9, 3, 7.
 fn check_demand(
     demand: Demand,
     k: usize,
@@ -88,66 +86,18 @@ fn check_demand(
 ) -> Checked
     ensures { λ r. ⌜ r ≡ checkDemand slots (take count links) (now (earlier .entry)) k (viewDemand demand) ⌝ }
 {
-    let used = ident_used(earlier, demand.ident);
-    let width_good = allowed_width(slots, demand.width);
-    let hops_good = allowed_hops(demand.hops);
-    let route_good = demand_route_sound(demand, links, count);
-    if used {
+    let tests = test_demand(demand, slots, links, count, earlier);
+    if tests.used {
         return Checked::Refused(Refusal::IdentUsed(k));
     }
-    if !width_good {
+    if !tests.width {
         return Checked::Refused(Refusal::BadWidth(k));
     }
-    if !hops_good {
+    if !tests.hops {
         return Checked::Refused(Refusal::WrongLength(k));
     }
-    if !route_good {
+    if !tests.route {
         return Checked::Refused(Refusal::BadRoute(k));
     }
     Checked::Sound
-}
-
-// Whether the route of a demand is sound: of its first `hops` links, or of all that there is room for.
-pub(crate) fn demand_route_sound(demand: Demand, links: [Link; 64], count: usize) -> bool
-    ensures { λ r. ⌜ r ≡ soundRoute (take count links) (viewDemand demand .route) ⌝ }
-{
-    let hops = demand.hops;
-    let route = demand.links;
-    if hops <= Request::MOST_HOPS {
-        sound_route(&route[..hops], links, count)
-    } else {
-        sound_route(&route, links, count)
-    }
-}
-
-// Whether one of the earlier idents is this one.
-pub(crate) fn ident_used(earlier: &[u16], ident: u16) -> bool
-    ensures { λ r. ⌜ r ≡ has ident (now (earlier .entry)) ⌝ }
-{
-    let mut i = 0;
-    while i < earlier.len() {
-        if ident == earlier[i] {
-            return true;
-        }
-        i += 1;
-    }
-    false
-}
-
-// A width is 1 to the slot count.
-pub(crate) fn allowed_width(slots: u16, width: u16) -> bool
-    ensures { λ r. ⌜ r ≡ allowedWidth slots width ⌝ }
-{
-    if 1 <= width { width <= slots } else { false }
-}
-
-// A route has 1 to 32 links.
-pub(crate) fn allowed_hops(hops: usize) -> bool
-    ensures { λ r. ⌜ r ≡ allowedHops hops ⌝ }
-{
-    if 1 <= hops {
-        hops <= Request::MOST_HOPS
-    } else {
-        false
-    }
 }

@@ -3,14 +3,15 @@ use grid::Band;
 use refusal::Refusal;
 
 mod check;
-mod read;
+mod empty;
 mod route;
-mod write;
+mod tests;
 
+pub use check::check_ground;
 pub use check::check_request;
-pub use read::empty_request;
-pub use read::read_request;
-pub use write::write_request;
+pub use empty::empty_demand;
+pub use empty::empty_request;
+pub use tests::test_demand;
 
 // A directed link from one node to another.
 pub struct Link {
@@ -42,10 +43,13 @@ pub enum Checked {
     Refused(Refusal),
 }
 
-// What reading a file gives: the request in it; or why it is refused, and the empty request.
-pub struct Reading {
-    pub verdict: Checked,
-    pub request: Request,
+// What each test of a demand says: whether its ident was used before, and whether its width, the length of its route and the route
+// itself are good. Which of them is told first is the caller's matter.
+pub struct DemandTests {
+    pub used: bool,
+    pub width: bool,
+    pub hops: bool,
+    pub route: bool,
 }
 
 // How many bytes were written, or why none.

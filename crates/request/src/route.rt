@@ -7,8 +7,8 @@ ghost use lib.Dec.{eqb};
 ghost use lib.ListN.{take};
 ghost use Rattle.request.specs.Check.{has, soundRoute};
 
-// Whether a route over the first `count` links is sound: each link is listed, stood not before, and begins where the one before
-// ends. Tested in this sequence, so that only a listed link is looked up.
+// Whether a route over the first `count` links is sound: each link is listed, is new in it, and sets out where the route has come to.
+// Tested in this sequence, so that only a listed link is looked up.
 pub(crate) fn sound_route(route: &[u8], links: [Link; 64], count: usize) -> bool
     ensures { λ r. ⌜ r ≡ soundRoute (take count links) (now (route .entry)) ⌝ }
 {

@@ -1,5 +1,4 @@
 -- Owning what a walk answers tells that its arrays have their lengths.
-use Prim.Native.Nat.{ℕ}
 use mathlib.Core.List.{List}
 use mathlib.Core.Path.{_≡_}
 use lib.ListN.{length}

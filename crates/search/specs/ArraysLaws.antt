@@ -10,7 +10,7 @@ use native.Mathlib.Omega.{arith}
 use lib.ListN.{getD, length}
 use Rattle.theory.specs.Problem.{Problem, Row, endOf, apart, fits, top}
 use Rattle.theory.specs.ProblemLaws.{fits-nil, fits-with, fits-first, fits-rest, top-cons}
-use Rattle.search.specs.Arrays.{entries, rowsOf}
+use Rattle.search.specs.inner.Arrays.{entries, rowsOf}
 
 -- what holds below a number and at it holds below the next
 below-next : (Q : ℕ → Type 0) (n : ℕ) → ((q : ℕ) → q < n → Q q) → Q n → (q : ℕ) → q < suc n → Q q

@@ -7,7 +7,7 @@ use native.Mathlib.Nat.{eq-or-lt-of-le}
 use native.Mathlib.Omega.{arith}
 use lib.ListN.{getD, set, length, length-set}
 use lib.Seq.{getD-set-same, getD-set-other}
-use Rattle.search.specs.Kept.{Shifted, Brought}
+use Rattle.search.specs.inner.Kept.{Shifted, Brought}
 
 -- at first nothing is shifted
 pub shifted-none : (order : List ℕ) (at : ℕ) → Shifted order at at order

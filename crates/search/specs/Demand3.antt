@@ -10,13 +10,16 @@ use Rattle.theory.specs.Arrange.{Arrange}
 use Rattle.theory.specs.Earlier.{Lower}
 use Rattle.theory.specs.Orders.{factorial, orders, listing}
 use Rattle.theory.specs.Problem.{fill, top}
+use Rattle.theory.specs.Search as theory
 use Rattle.request.specs.View.{View}
-use Rattle.placing.specs.Placing.{problemOf, boundOf}
-use Rattle.placing.specs.Plan.{AllowedPlan, endOfPlan}
+use Rattle.request.specs.Sharing.{problemOf}
+use Rattle.meeting.specs.Bound.{boundOf}
+use Rattle.meeting.specs.Plan.{AllowedPlan, endOfPlan, startsOf}
+use Rattle.placing.specs.FirstFit.{firstFitReply, firstFitStarts}
+use Rattle.placing.specs.declared.PlacedReply.the-variants as placed-reply
 use Rattle.search.specs.declared.Outcome.{Outcome}
 use Rattle.search.specs.declared.Outcome.the-variants.{Finished, NothingFits, Unfinished, UnfinishedEmpty}
 use Rattle.search.specs.declared.Answer.{Answer}
-use Rattle.search.specs.Reply.{startsOf}
 
 -- an order of a request lists each listing position once
 unfoldable pub OrderOf : View → List ℕ → Type 0
@@ -33,6 +36,11 @@ pub record PlanShown (v : View) (e : ℕ) (starts order : List ℕ) : Type 0 whe
   pub in-band : e ≤ v .band .slots
   pub an-order : OrderOf v order
   pub by-first-fit : starts ≡ startsOf (v .demandCount) (fill (problemOf v) [] order)
+
+-- the call of first fit in the order shown gives the plan shown, whatever buffer with room it is lent: its end, and its starts
+pub record FirstFitShows (v : View) (e : ℕ) (starts order buffer : List ℕ) : Type 0 where
+  pub placed : firstFitReply v order buffer ≡ placed-reply.Placed e
+  pub same-starts : take (v .demandCount) (firstFitStarts v order buffer) ≡ starts
 
 -- no allowed plan whatsoever, first-fit or otherwise, has a lower end
 unfoldable pub NoneLower : View → ℕ → Type 0
@@ -99,18 +107,30 @@ RestKept K NothingFits before after = after ≡ before
 RestKept K (Unfinished e) before after = drop K after ≡ drop K before
 RestKept K UnfinishedEmpty before after = after ≡ before
 
--- an answer, and what the two lent buffers hold afterwards: its promise holds of their first K entries, which are the plan's starts and its
--- order; the bound shown is the request's; no step beyond the limit was taken; the rest of the buffers stays
-pub record AnswerKept (v : View) (limit : ℕ) (a : Answer) (starts order starts-after order-after : List ℕ) : Type 0 where
-  pub promised : Promised v limit a (take (v .demandCount) starts-after) (take (v .demandCount) order-after) (a .outcome)
-  pub bound-shown : a .bound ≡ boundOf v
-  pub steps-within : a .steps ≤ limit
-  pub starts-kept : RestKept (v .demandCount) (a .outcome) starts starts-after
-  pub order-kept : RestKept (v .demandCount) (a .outcome) order order-after
-
 -- an outcome settles the question: finished, or nothing fits
 unfoldable pub settles : Outcome → Bool
 settles (Finished e) = true
 settles NothingFits = true
 settles (Unfinished e) = false
 settles UnfinishedEmpty = false
+
+-- the steps that the search of a request needs: those that it takes without a limit
+unfoldable pub stepsNeeded : View → ℕ
+stepsNeeded v = theory.stepsNeeded (problemOf v) (v .band .slots) (boundOf v) [] (listing (v .demandCount))
+
+-- the question is settled exactly when the limit is no lower than the steps needed, and then exactly these were taken
+pub record SettlesExactly (needed limit : ℕ) (a : Answer) : Type 0 where
+  pub settled-there : needed ≤ limit → settles (a .outcome) ≡ true
+  pub only-there : settles (a .outcome) ≡ true → needed ≤ limit
+  pub steps-are : settles (a .outcome) ≡ true → a .steps ≡ needed
+
+-- an answer, and what the two lent buffers hold afterwards: its promise holds of their first K entries, which are the plan's starts and its
+-- order; it settles the question unless the steps needed are more than the limit; the bound shown is the request's; no step beyond the
+-- limit was taken; the rest of the buffers stays
+pub record AnswerKept (v : View) (limit : ℕ) (a : Answer) (starts order starts-after order-after : List ℕ) : Type 0 where
+  pub promised : Promised v limit a (take (v .demandCount) starts-after) (take (v .demandCount) order-after) (a .outcome)
+  pub settles-exactly : SettlesExactly (stepsNeeded v) limit a
+  pub bound-shown : a .bound ≡ boundOf v
+  pub steps-within : a .steps ≤ limit
+  pub starts-kept : RestKept (v .demandCount) (a .outcome) starts starts-after
+  pub order-kept : RestKept (v .demandCount) (a .outcome) order order-after

@@ -1,26 +1,25 @@
 -- The search keeps its promises: whatever it answers about a sound request holds.
-use Prim.Native.Nat.{ℕ, zero, suc, _+_, _≤_, _<_}
-use mathlib.Core.Bool.{true}
-use mathlib.Core.List.{List, [], _∷_, _++_, map, append-assoc, List·Memᴰ, List·Memᴰ·cases-cons, List·Memᴰ·append-cases, List·Memᴰ·head, Memᴰ·append-left, Memᴰ·append-right}
+use Prim.Native.Nat.{ℕ, _+_, _≤_, _<_}
+use mathlib.Core.Bool.{true, false≢true}
+use mathlib.Core.List.{List, [], _∷_, _++_, append-assoc, List·Memᴰ, List·Memᴰ·cases-cons, List·Memᴰ·append-cases, List·Memᴰ·head, List·Memᴰ·not-nil, Memᴰ·append-left, Memᴰ·append-right}
 use mathlib.Core.Logic.{⊎-elim}
 use mathlib.Core.Path.{_≡_, refl, sym, subst, ap, _∙_}
 use native.Mathlib.Omega.{arith}
-use lib.ListN.{length, take, drop, getD, length-map}
-use lib.Seq.{take-at, drop-at}
+use lib.ListN.{length, take, drop, length-map}
 use Rattle.theory.specs.Earlier.{Lower}
-use Rattle.theory.specs.Orders.{factorial, orders, countUp, listing}
-use Rattle.theory.specs.OrdersLaws.{orders-arrange, earlier-listed-before}
+use Rattle.theory.specs.Orders.{factorial, orders, listing}
+use Rattle.theory.specs.OrdersLaws.{factorial-pos, orders-arrange, earlier-listed-before}
 use Rattle.theory.specs.ListingLaws.{listing-below, listing-length, listing-no-repeats, listing-rising}
 use Rattle.theory.specs.Arrange.{Arrange}
 use Rattle.theory.specs.ArrangeLaws.{arrange-mem, arrange-length}
 use Rattle.theory.specs.EarlierLaws.{lower-earlier}
 use Rattle.theory.specs.AlikeLaws.{planEnd-alike, allowed-alike}
-use Rattle.theory.specs.Problem.{Problem, Row, fill, top, startIn, Allowed, planEnd}
+use Rattle.theory.specs.Problem.{Problem, Row, fill, startIn}
 use Rattle.theory.specs.ProblemLaws.{top-nil}
-use Rattle.theory.specs.Tried.{endsAt, FirstLowest}
+use Rattle.theory.specs.inner.Tried.{endsAt, FirstLowest}
 use Rattle.theory.specs.Walk.{Best, none-met, met}
 use Rattle.theory.specs.Search as theory
-use Rattle.theory.specs.Promises as promises
+use Rattle.theory.specs.inner.Promises as promises
 use Rattle.theory.specs.SearchLaws.{search-promise, search-steps, search-bound, search-same}
 use Rattle.request.specs.declared.Request.{Request}
 use Rattle.request.specs.declared.Checked.{Checked}
@@ -31,18 +30,23 @@ use Rattle.request.specs.Whole.{Whole}
 use Rattle.request.specs.LimitsLaws.{checked-limits}
 use Rattle.request.specs.SoundLaws.{check-sound, whole-counted}
 use Rattle.request.specs.Sound.{SoundRequest}
-use Rattle.placing.specs.Placing.{problemOf, boundOf}
-use Rattle.placing.specs.Plan.{startAt, AllowedPlan, endOfPlan}
-use Rattle.placing.specs.PlanLaws.{slots-to-ends, ends-to-slots, share-swap}
-use Rattle.placing.specs.BoundLaws.{bound-below}
-use Rattle.placing.specs.MeetingLaws.{listing-at}
-use Rattle.placing.specs.PlanEndLaws.{plan-end-is}
+use Rattle.request.specs.Sharing.{problemOf}
+use Rattle.meeting.specs.Bound.{boundOf}
+use Rattle.meeting.specs.Plan.{startAt, startsOf}
+use Rattle.meeting.specs.PlanLaws.{slots-to-ends, ends-to-slots, share-swap}
+use Rattle.meeting.specs.BoundLaws.{bound-below}
+use Rattle.meeting.specs.MeetingLaws.{start-listed}
+use Rattle.meeting.specs.PlanEndLaws.{plan-end-is}
 use Rattle.search.specs.declared.Outcome.{Outcome}
+use Rattle.search.specs.declared.Outcome.the-variants.{Unfinished, UnfinishedEmpty}
 use Rattle.search.specs.declared.Answer.{Answer}
 use Rattle.search.specs.declared.SearchReply.the-variants as reply
-use Rattle.search.specs.Reply.{searched, outcomeTold, answerTold, checkSearch, replyTo, startsOf, over, startsKept, orderKept, unlessRefused, searchReply, startsAfter, orderAfter}
+use Rattle.search.specs.Reply.{searched, outcomeTold, answerTold, checkSearch, replyTo, startsKept, orderKept, searchReply, startsAfter, orderAfter}
+use Rattle.lent.specs.Lent.{unlessRefused}
 use Rattle.search.specs.ReplyLaws.{passed-searchable}
-use Rattle.search.specs.Demand3.{OrderOf, endInOrder, PlanShown, NoneLower, Rank, BestThereIs, NoPlanExists, StepsUsedUp, BestSoFar, NoneSoFar, Promised, RestKept, AnswerKept, settles}
+use Rattle.search.specs.SettlesLaws.{settles-told, settling, twelve-within}
+use Rattle.search.specs.Demand3.{OrderOf, endInOrder, PlanShown, NoneLower, BestThereIs, NoPlanExists, StepsUsedUp, BestSoFar, NoneSoFar, Promised, RestKept, settles, stepsNeeded, SettlesExactly, AnswerKept}
+use Rattle.lent.specs.LentLaws.{front-written, rest-kept}
 
 -- an order that comes before another is listed before it
 listed-before : (K : ℕ) (earlier later : List (List ℕ)) (order other : List ℕ) → orders (listing K) ≡ earlier ++ (order ∷ later) →
@@ -50,21 +54,6 @@ listed-before : (K : ℕ) (earlier later : List (List ℕ)) (order other : List 
 listed-before K earlier later order other split is-order is-other low =
     earlier-listed-before (listing K) (listing-no-repeats K) earlier later order other split is-other
     (lower-earlier (listing K) (listing-rising K) other order (arrange-mem other (listing K) is-other) (arrange-mem order (listing K) is-order) low)
-
--- the starts of rows by listing position are the rows' starts
-pub start-listed : (K : ℕ) (rows : List Row) (i : ℕ) → i < K → startAt (startsOf K rows) i ≡ startIn rows i
-unfolding startAt startsOf
-start-listed K rows i h = listing-at (startIn rows) K i 0 h
-
--- entries at the front of a buffer: the first K are theirs
-front-written : (K : ℕ) (entries buffer : List ℕ) → length entries ≡ K → take K (over entries buffer) ≡ entries
-unfolding over
-front-written K entries buffer h = take-at entries (drop (length entries) buffer) K h
-
--- and what stands behind them stays
-rest-kept : (K : ℕ) (entries buffer : List ℕ) → length entries ≡ K → drop K (over entries buffer) ≡ drop K buffer
-unfolding over
-rest-kept K entries buffer h = drop-at entries (drop (length entries) buffer) K h ∙ ap (λ (n : ℕ). drop n buffer) h
 
 -- with a plan the buffer of starts holds the plan's starts, and stays behind them
 starts-written : (K : ℕ) (best : Best) (rows : List Row) (order buffer : List ℕ) → best ≡ met rows order →
@@ -289,6 +278,7 @@ module _ (v : View) (sound : SoundRequest v) (counted : length (v .demands) ≡ 
         (search-promise P (v .band .slots) (boundOf v) limit [] todo (grounds-of v sound counted)) in
         record {
           promised = told .0;
+          settles-exactly = settling v limit;
           bound-shown = search-bound P (v .band .slots) (boundOf v) limit [] todo;
           steps-within = search-steps P (v .band .slots) (boundOf v) limit [] todo;
           starts-kept = told .1;
@@ -320,16 +310,7 @@ demand3 q whole limit starts order a e =
     (subst (λ (b : Answer). AnswerKept v limit b starts order
     (startsKept (v .demandCount) (searched v limit .best) starts) (orderKept (searched v limit .best) order)) same kept)
 
--- the call's outcome settles the question where the walk's does
-settles-told : (o : theory.Outcome) → settles (outcomeTold o) ≡ promises.settled o
-unfolding settles outcomeTold promises.settled
-settles-told (theory.finished e) = refl
-settles-told theory.nothing-fits = refl
-settles-told (theory.unfinished e) = refl
-settles-told theory.unfinished-empty = refl
-
--- an answer that settles the question is the answer under every limit of at least its steps, and so are the buffers: who always says
--- unfinished gives other answers
+-- an answer that settles the question is the answer under every limit of at least its steps, and so are the buffers
 pub settled-same : (v : View) (limit other : ℕ) (starts order : List ℕ) (a : Answer) →
     searchReply v limit (length starts) (length order) ≡ reply.Answered a → settles (a .outcome) ≡ true → a .steps ≤ other →
     (searchReply v other (length starts) (length order) ≡ reply.Answered a) ×
@@ -346,3 +327,52 @@ settled-same v limit other starts order a e settled few =
       ap (λ (x : theory.Answer). unlessRefused c starts (startsKept (v .demandCount) (x .best) starts)) same,
       ap (λ (x : theory.Answer). unlessRefused c order (orderKept (x .best) order)) same,
     )
+
+-- an answer settles the question exactly from the steps needed on
+answer-settling : (v : View) (limit : ℕ) (starts order : List ℕ) (a : Answer) →
+    searchReply v limit (length starts) (length order) ≡ reply.Answered a → SettlesExactly (stepsNeeded v) limit a
+unfolding searchReply
+answer-settling v limit starts order a e =
+    subst (SettlesExactly (stepsNeeded v) limit) (answer-given (checkSearch v (length starts) (length order)) (searched v limit) a e .1)
+    (settling v limit)
+
+-- for each request there is one number of steps, the same for every limit and all buffers: the question is settled exactly where the limit
+-- is no lower, and then in exactly so many steps
+pub settles-from : (v : View) → (needed : ℕ) ×
+    ((limit : ℕ) (starts order : List ℕ) (a : Answer) → searchReply v limit (length starts) (length order) ≡ reply.Answered a →
+    SettlesExactly needed limit a)
+settles-from v = (stepsNeeded v, answer-settling v)
+
+-- one who takes no order in and says of every limit that it is used up keeps what unfinished without a plan promises, whatever the request
+pub giving-up-promised : (v : View) (limit bound : ℕ) →
+    NoneSoFar v limit (record { outcome = UnfinishedEmpty; bound = bound; steps = limit; reached = 0; ruled = 0 })
+giving-up-promised v limit bound =
+    record {
+      orders-met = [];
+      stopped =
+          record {
+            steps-used = refl;
+            orders-left = orders (listing (v .demandCount));
+            first-ones = refl;
+            sum = refl;
+            not-all = omega (arith, factorial-pos (v .demandCount));
+          };
+      none-met = λ other m. absurd (List·Memᴰ·not-nil m);
+    }
+
+-- but not the whole promise: nobody who keeps that says unfinished, with or without a plan, where the limit has room for the steps needed
+pub never-always-unfinished : (v : View) (limit : ℕ) (a : Answer) (starts order starts-after order-after : List ℕ) →
+    AnswerKept v limit a starts order starts-after order-after → stepsNeeded v ≤ limit →
+    (a .outcome ≡ UnfinishedEmpty → ⊥) × ((e : ℕ) → a .outcome ≡ Unfinished e → ⊥)
+unfolding settles
+never-always-unfinished v limit a starts order starts-after order-after kept enough =
+    let settled : settles (a .outcome) ≡ true = kept .settles-exactly .settled-there enough in (
+      λ none. false≢true (sym (ap settles none) ∙ settled),
+      λ e some. false≢true (sym (ap settles some) ∙ settled),
+    )
+
+-- up to twelve demands a limit of 1302061344 steps settles the question, whatever the request
+pub twelve-settled : (v : View) → v .demandCount ≤ 12 → (limit : ℕ) → 1302061344 ≤ limit → (starts order : List ℕ) (a : Answer) →
+    searchReply v limit (length starts) (length order) ≡ reply.Answered a → settles (a .outcome) ≡ true
+twelve-settled v few limit enough starts order a e =
+    answer-settling v limit starts order a e .settled-there (omega (arith, twelve-within v few))

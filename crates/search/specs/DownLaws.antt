@@ -15,11 +15,11 @@ use Rattle.theory.specs.ProblemLaws.{place-is}
 use Rattle.theory.specs.TestLaws.{by-test}
 use Rattle.theory.specs.Walk.{Tally, siblings, walk}
 use Rattle.theory.specs.WalkBranchLaws.{walk-siblings}
-use Rattle.search.specs.Arrays.{problemOf, entries, rowsOf}
+use Rattle.search.specs.inner.Arrays.{problemOf, entries, rowsOf}
 use Rattle.search.specs.ArraysLaws.{entries-none, entries-append, entries-last, entries-same, rows-more, rows-same}
-use Rattle.search.specs.Kept.{Place, Listed, Passed, Lowest, Ready, Mendable, Mended, Brought}
+use Rattle.search.specs.inner.Kept.{Place, Listed, Passed, Lowest, Ready, Mendable, Mended, Brought}
 use Rattle.search.specs.KeptLaws.{kept-bounded, mended-rows, mended-mendable}
-use Rattle.search.specs.Tries.{triedFrom, goneInto}
+use Rattle.search.specs.inner.Tries.{triedFrom, goneInto}
 
 -- where the entry at place r goes when the one at place p is brought forward to place n
 target : ℕ → ℕ → ℕ → ℕ

@@ -1,43 +1,46 @@
 -- What is found of a sound request is what the search of its problem finds.
 use Prim.Native.Nat.{ℕ, zero, suc, _+_, _≤_, _<_}
-use mathlib.Core.Bool.{Bool, true, false, false≢true}
+use mathlib.Core.Bool.{Bool, true, false}
 use mathlib.Core.List.{List, [], _∷_, map}
 use mathlib.Core.Logic.{⊎-elim}
 use mathlib.Core.Path.{_≡_, refl, sym, ap, ap₂, subst, _∙_, fun-ext}
 use native.Mathlib.Omega.{arith}
-use native.Mathlib.Numerals.{add-one}
 use lib.ListN.{length, take, drop, getD, set, length-map, replicate, List·getD-eq-default}
 use lib.Seq.{ext-getD, length-take-le, getD-take, getD-set-same, getD-set-other, drop-cons}
-use Rattle.theory.specs.Problem.{Problem, Row, top, startIn}
+use Rattle.theory.specs.Problem.{Problem, Row, startIn}
 use Rattle.theory.specs.ProblemLaws.{top-nil}
 use Rattle.theory.specs.Orders.{factorial, listing, countUp}
 use Rattle.theory.specs.ListingLaws.{listing-length, countUp-length}
-use Rattle.theory.specs.Walk.{Best, none-met, met, Tally, walk}
+use Rattle.theory.specs.Walk.{none-met, met, Tally, walk}
 use Rattle.theory.specs.Search as theory
-use Rattle.theory.specs.SearchLaws.{search-too-narrow, search-walks, searchWalk-none, searchWalk-some}
+use Rattle.theory.specs.SearchLaws.{search-too-narrow, search-walks, searchWalk-some}
 use Rattle.request.specs.declared.Request.{Request}
-use Rattle.request.specs.View.{DemandView, View, view, viewDemand, demandAt, noDemand}
+use Rattle.request.specs.View.{DemandView, View, view, viewDemand, demandAt, noDemand, noEntry}
 use Rattle.request.specs.ViewLaws.{demand-shown, demands-shown}
 use Rattle.request.specs.Whole.{Whole}
-use Rattle.request.specs.Limits.{Limits}
+use Rattle.request.specs.inner.Limits.{Limits}
 use Rattle.request.specs.LimitsLaws.{checked-limits}
-use Rattle.request.specs.Sound.{SoundDemand, SoundRequest}
+use Rattle.request.specs.Sound.{SoundRequest}
 use Rattle.request.specs.SoundLaws.{check-sound, whole-counted}
-use Rattle.placing.specs.ViewLaws.{demand-none}
-use Rattle.placing.specs.Placing.{shareLink, boundOf, meetingRow, meetingTable}
-use Rattle.placing.specs.Placing as placing
-use Rattle.placing.specs.MeetingLaws.{table-entry, joined-swap, listing-at}
+use Rattle.meeting.specs.AskedLaws.{demand-none}
+use Rattle.request.specs.Sharing.{shareLink}
+use Rattle.meeting.specs.Bound.{boundOf}
+use Rattle.search.specs.inner.Table.{tableRow, meetingTable}
+use Rattle.request.specs.Sharing as sharing
+use Rattle.search.specs.TableLaws.{table-entry}
+use Rattle.meeting.specs.MeetingLaws.{joined-swap, listing-at, starts-long}
 use Rattle.theory.specs.TriedLaws.{below-or-not}
 use Rattle.search.specs.declared.Outcome.{Outcome}
 use Rattle.search.specs.declared.Outcome.the-variants.{Finished, NothingFits}
 use Rattle.search.specs.declared.Found.{Found}
 use Rattle.search.specs.declared.Walked.{Walked}
-use Rattle.search.specs.Arrays.{problemOf, entries}
-use Rattle.search.specs.Kept.{Sized}
-use Rattle.search.specs.Told.{Told, isMet, isSpent}
-use Rattle.search.specs.Reply.{searched, outcomeBy, outcomeTold, answerTold, startsOf}
+use Rattle.search.specs.inner.Arrays.{problemOf, entries}
+use Rattle.search.specs.inner.Kept.{Sized}
+use Rattle.search.specs.inner.Told.{Told, isMet, isSpent}
+use Rattle.search.specs.Reply.{searched, outcomeBy, outcomeTold, answerTold}
+use Rattle.meeting.specs.Plan.{startsOf}
 use Rattle.search.specs.ReplyLaws.{outcome-by}
-use Rattle.search.specs.Found.{Searchable, FoundFor}
+use Rattle.search.specs.inner.Found.{Searchable, FoundFor}
 
 -- no plan is not a plan
 none-not-met : {C : Type 0} (rows : List Row) (order : List ℕ) → none-met ≡ met rows order → C
@@ -62,7 +65,7 @@ found-narrow v limit found above is =
     }
   where
     narrow : searched v limit ≡ theory.too-narrow (boundOf v) (length (listing (v .demandCount)))
-    narrow = search-too-narrow (placing.problemOf v) (v .band .slots) (boundOf v) limit [] (listing (v .demandCount)) above
+    narrow = search-too-narrow (sharing.problemOf v) (v .band .slots) (boundOf v) limit [] (listing (v .demandCount)) above
 
 -- nothing to place, nothing to start
 nothing-walked : (P : Problem) (S bound limit : ℕ) → theory.searchWalk P S bound limit [] (listing 0) ≡ theory.at-once P bound []
@@ -84,7 +87,7 @@ found-at-once v limit found within none is =
       order-whole = ap (λ (f : Found). length (f .order)) is;
       answer-is =
           ap (λ (f : Found). f .answer) is
-          ∙ ap (λ (e : ℕ). record { outcome = Finished e; bound = boundOf v; steps = 0; reached = 1; ruled = 0 }) (sym (top-nil (placing.problemOf v)))
+          ∙ ap (λ (e : ℕ). record { outcome = Finished e; bound = boundOf v; steps = 0; reached = 1; ruled = 0 }) (sym (top-nil (sharing.problemOf v)))
           ∙ sym (ap answerTold at-once);
       plan-is = ap (λ (f : Found). f .plan) is ∙ sym (ap (λ (a : theory.Answer). isMet (a .best)) at-once);
       starts-are = λ rows order e. subst (λ (n : ℕ). take n (found .starts) ≡ map (startIn rows) (listing n)) (sym none) (nothing-started rows (found .starts));
@@ -92,29 +95,29 @@ found-at-once v limit found within none is =
           (ordered rows order (sym (ap (λ (a : theory.Answer). a .best) at-once) ∙ e));
     }
   where
-    at-once : searched v limit ≡ theory.at-once (placing.problemOf v) (boundOf v) []
+    at-once : searched v limit ≡ theory.at-once (sharing.problemOf v) (boundOf v) []
     at-once =
-        search-walks (placing.problemOf v) (v .band .slots) (boundOf v) limit [] (listing (v .demandCount)) within
-        ∙ ap (λ (n : ℕ). theory.searchWalk (placing.problemOf v) (v .band .slots) (boundOf v) limit [] (listing n)) none
-        ∙ nothing-walked (placing.problemOf v) (v .band .slots) (boundOf v) limit
+        search-walks (sharing.problemOf v) (v .band .slots) (boundOf v) limit [] (listing (v .demandCount)) within
+        ∙ ap (λ (n : ℕ). theory.searchWalk (sharing.problemOf v) (v .band .slots) (boundOf v) limit [] (listing n)) none
+        ∙ nothing-walked (sharing.problemOf v) (v .band .slots) (boundOf v) limit
 
     ordered : (rows : List Row) (order : List ℕ) → met [] [] ≡ met rows order → [] ≡ order
     ordered rows order e = cc
 
 -- behind the last demand there is none, and none shares a link with anything
-far-unjoined : (v : View) (i j : ℕ) → length (v .demands) ≤ i → placing.problemOf v .joined i j ≡ false
-unfolding placing.problemOf demandAt shareLink
+far-unjoined : (v : View) (i j : ℕ) → length (v .demands) ≤ i → sharing.problemOf v .joined i j ≡ false
+unfolding sharing.problemOf demandAt shareLink
 far-unjoined v i j h =
     ap (λ (d : DemandView). shareLink (d .route) (demandAt (v .demands) j .route)) (List·getD-eq-default (v .demands) noDemand h)
 
 -- behind its last row and its last entry the table says no
 table-rows : (v : View) → length (meetingTable v) ≡ 20
 unfolding meetingTable
-table-rows v = length-map (listing 20) (meetingRow v) ∙ listing-length 20
+table-rows v = length-map (listing 20) (tableRow v) ∙ listing-length 20
 
-row-entries : (v : View) (i : ℕ) → length (meetingRow v i) ≡ 20
-unfolding meetingRow
-row-entries v i = length-map (listing 20) (placing.problemOf v .joined i) ∙ listing-length 20
+row-entries : (v : View) (i : ℕ) → length (tableRow v i) ≡ 20
+unfolding tableRow
+row-entries v i = length-map (listing 20) (sharing.problemOf v .joined i) ∙ listing-length 20
 
 far-row : (v : View) (i j : ℕ) → 20 ≤ i → getD (getD (meetingTable v) i []) j false ≡ false
 far-row v i j h =
@@ -123,11 +126,11 @@ far-row v i j h =
 far-entry : (v : View) (i j : ℕ) → i < 20 → 20 ≤ j → getD (getD (meetingTable v) i []) j false ≡ false
 unfolding meetingTable
 far-entry v i j h k =
-    ap (λ (row : List Bool). getD row j false) (listing-at (meetingRow v) 20 i [] h)
-    ∙ List·getD-eq-default (meetingRow v i) false {n = j} (omega (arith, row-entries v i))
+    ap (λ (row : List Bool). getD row j false) (listing-at (tableRow v) 20 i [] h)
+    ∙ List·getD-eq-default (tableRow v i) false {n = j} (omega (arith, row-entries v i))
 
 -- the table says of any two numbers what the request says
-joined-everywhere : (v : View) → length (v .demands) ≤ 20 → (i j : ℕ) → getD (getD (meetingTable v) i []) j false ≡ placing.problemOf v .joined i j
+joined-everywhere : (v : View) → length (v .demands) ≤ 20 → (i j : ℕ) → getD (getD (meetingTable v) i []) j false ≡ sharing.problemOf v .joined i j
 joined-everywhere v few i j =
     ⊎-elim
     (λ (hi : i < 20). ⊎-elim
@@ -140,8 +143,8 @@ joined-everywhere v few i j =
 -- the problem of the table and the widths is the request's
 pub same-problem : (v : View) (widths : List ℕ) → length (v .demands) ≤ 20 →
     ((i : ℕ) → getD widths i 0 ≡ demandAt (v .demands) i .width) →
-    problemOf (meetingTable v) widths (v .band .guard) ≡ placing.problemOf v
-unfolding problemOf placing.problemOf
+    problemOf (meetingTable v) widths (v .band .guard) ≡ sharing.problemOf v
+unfolding problemOf sharing.problemOf
 same-problem v widths few same =
     ap₂ (λ (w : ℕ → ℕ) (j : ℕ → ℕ → Bool). record { width = w; joined = j; gap = λ (i j : ℕ). v .band .guard })
     (fun-ext same)
@@ -149,14 +152,14 @@ same-problem v widths few same =
 
 -- the walk of a request with something to place
 searched-walk : (v : View) (limit K : ℕ) → boundOf v ≤ v .band .slots → v .demandCount ≡ K → 1 ≤ K →
-    searched v limit ≡ theory.conclude (boundOf v) (walk (placing.problemOf v) limit (boundOf v) K [] [] (listing K) (theory.fresh (v .band .slots + 1)))
+    searched v limit ≡ theory.conclude (boundOf v) (walk (sharing.problemOf v) limit (boundOf v) K [] [] (listing K) (theory.fresh (v .band .slots + 1)))
 unfolding searched listing countUp
 searched-walk v limit zero within e h = absurd (omega arith)
 searched-walk v limit (suc n) within e h =
-    search-walks (placing.problemOf v) (v .band .slots) (boundOf v) limit [] (listing (v .demandCount)) within
-    ∙ ap (λ (k : ℕ). theory.searchWalk (placing.problemOf v) (v .band .slots) (boundOf v) limit [] (listing k)) e
-    ∙ searchWalk-some (placing.problemOf v) (v .band .slots) (boundOf v) limit [] 0 (countUp n 1)
-    ∙ ap (λ (k : ℕ). theory.conclude (boundOf v) (walk (placing.problemOf v) limit (boundOf v) k [] [] (0 ∷ countUp n 1) (theory.fresh (v .band .slots + 1)))) (ap suc (countUp-length n 1))
+    search-walks (sharing.problemOf v) (v .band .slots) (boundOf v) limit [] (listing (v .demandCount)) within
+    ∙ ap (λ (k : ℕ). theory.searchWalk (sharing.problemOf v) (v .band .slots) (boundOf v) limit [] (listing k)) e
+    ∙ searchWalk-some (sharing.problemOf v) (v .band .slots) (boundOf v) limit [] 0 (countUp n 1)
+    ∙ ap (λ (k : ℕ). theory.conclude (boundOf v) (walk (sharing.problemOf v) limit (boundOf v) k [] [] (0 ∷ countUp n 1) (theory.fresh (v .band .slots + 1)))) (ap suc (countUp-length n 1))
 
 -- the first entries of a list, taken and told one by one
 entries-taken : (l : List ℕ) (from n : ℕ) → from + n ≤ length l → entries l from n ≡ take n (drop from l)
@@ -166,11 +169,7 @@ entries-taken l from (suc n) h =
     rw (drop-cons l from 0 (omega arith))
     (ap (λ (rest : List ℕ). getD l from 0 ∷ rest) (entries-taken l (suc from) n (omega arith)))
 
--- the starts of K demands are K, each its own
-starts-length : (K : ℕ) (rows : List Row) → length (startsOf K rows) ≡ K
-unfolding startsOf
-starts-length K rows = length-map (listing K) (startIn rows) ∙ listing-length K
-
+-- of the starts of K demands each has its own
 start-at : (K : ℕ) (rows : List Row) (k : ℕ) → k < K → getD (startsOf K rows) k 0 ≡ startIn rows k
 unfolding startsOf
 start-at K rows k h = listing-at (startIn rows) K k 0 h
@@ -178,7 +177,7 @@ start-at K rows k h = listing-at (startIn rows) K k 0 h
 -- what a walk found
 pub found-walk : (v : View) (limit : ℕ) (walked : Walked) (found : Found) → boundOf v ≤ v .band .slots → 1 ≤ v .demandCount → v .demandCount ≤ 20 →
     length (walked .starts) ≡ 20 → length (walked .order) ≡ 20 →
-    Told (v .demandCount) (walk (placing.problemOf v) limit (boundOf v) (v .demandCount) [] [] (listing (v .demandCount)) (theory.fresh (v .band .slots + 1))) walked →
+    Told (v .demandCount) (walk (sharing.problemOf v) limit (boundOf v) (v .demandCount) [] [] (listing (v .demandCount)) (theory.fresh (v .band .slots + 1))) walked →
     found ≡ record { answer = record { outcome = outcomeBy (walked .spent) (walked .found) (walked .mark); bound = boundOf v; steps = walked .steps; reached = walked .reached; ruled = walked .ruled }; plan = walked .found; starts = walked .starts; order = walked .order } →
     FoundFor v limit found
 unfolding answerTold theory.conclude
@@ -200,7 +199,7 @@ found-walk v limit walked found within some few len-starts len-order told is =
     K = v .demandCount
 
     t : Tally
-    t = walk (placing.problemOf v) limit (boundOf v) K [] [] (listing K) (theory.fresh (v .band .slots + 1))
+    t = walk (sharing.problemOf v) limit (boundOf v) K [] [] (listing K) (theory.fresh (v .band .slots + 1))
 
     same : searched v limit ≡ theory.conclude (boundOf v) t
     same = searched-walk v limit K within refl some
@@ -223,7 +222,7 @@ found-walk v limit walked found within some few len-starts len-order told is =
 
     starts-same : (rows : List Row) (order : List ℕ) → t .best ≡ met rows order → take K (walked .starts) ≡ startsOf K rows
     starts-same rows order e =
-        ext-getD 0 (take K (walked .starts)) (startsOf K rows) (taken ∙ sym (starts-length K rows))
+        ext-getD 0 (take K (walked .starts)) (startsOf K rows) (taken ∙ sym (starts-long K rows))
         (λ k h.
         let low : k < K = omega (arith, taken) in
         getD-take K (walked .starts) k 0 low ∙ told .starts-are rows order e k low ∙ sym (start-at K rows k low))
@@ -236,15 +235,15 @@ few-asked q h = h .few
 -- the widths of the first demands of a request, with one more
 pub widths-more : (q : Request) (widths : List ℕ) (i : ℕ) → i < length widths → i < q .«demand_count» →
     ((k : ℕ) → k < i → getD widths k 0 ≡ demandAt (view q .demands) k .width) →
-    (k : ℕ) → k < i + 1 → getD (set widths i (getD (q .demands) i (record { ident = 0; width = 0; hops = 0; links = [] }) .width)) k 0 ≡ demandAt (view q .demands) k .width
+    (k : ℕ) → k < i + 1 → getD (set widths i (getD (q .demands) i noEntry .width)) k 0 ≡ demandAt (view q .demands) k .width
 unfolding viewDemand
 widths-more q widths i room listed so-far k h =
     ⊎-elim
     (λ (low : k < i). getD-set-other widths i k _ 0 (λ e. omega arith) ∙ so-far k low)
     (λ (high : i ≤ k).
     let same : k ≡ i = omega arith in
-    subst (λ (n : ℕ). getD (set widths i (getD (q .demands) i (record { ident = 0; width = 0; hops = 0; links = [] }) .width)) n 0 ≡ demandAt (view q .demands) n .width) (sym same)
-    (getD-set-same widths i (getD (q .demands) i (record { ident = 0; width = 0; hops = 0; links = [] }) .width) 0 room
+    subst (λ (n : ℕ). getD (set widths i (getD (q .demands) i noEntry .width)) n 0 ≡ demandAt (view q .demands) n .width) (sym same)
+    (getD-set-same widths i (getD (q .demands) i noEntry .width) 0 room
     ∙ ap (λ (d : DemandView). d .width) (sym (demand-shown q i listed))))
     (below-or-not k i)
 
@@ -260,7 +259,7 @@ unfolding noDemand
 widths-all q widths i all so-far rest k =
     ⊎-elim
     (λ (low : k < i). so-far k low)
-    (λ (high : i ≤ k). rest k high ∙ sym (ap (λ (d : DemandView). d .width) (demand-none q k (omega (arith, demands-shown q)))))
+    (λ (high : i ≤ k). rest k high ∙ sym (ap (λ (d : DemandView). d .width) (demand-none (view q .demands) k (omega (arith, demands-shown q)))))
     (below-or-not k i)
 
 -- the three ways in which a search of a request in memory comes out, with the numbers as the code has them

@@ -14,10 +14,10 @@ use Rattle.theory.specs.Problem.{Problem, Row, endOf, apart, fits, past, lowest
 use Rattle.theory.specs.TestLaws.{by-test}
 use Rattle.theory.specs.ApartLaws.{unjoined-apart, before-apart, after-apart, apart-cases, clash-from}
 use Rattle.theory.specs.ProblemLaws.{lowest-fits, lowest-least, lowest-past, lowest-stays, lowest-jumps}
-use Rattle.search.specs.Arrays.{problemOf, rowsOf}
+use Rattle.search.specs.inner.Arrays.{problemOf, rowsOf}
 use Rattle.search.specs.ArraysLaws.{rows-more, rows-same, rows-fit, rows-apart, rows-end, rows-top}
-use Rattle.search.specs.Scan.{Clear, FirstClear}
-use Rattle.search.specs.Kept.{Sized, Place, Listed, Passed, Lowest, Mendable, Mended}
+use Rattle.search.specs.inner.Scan.{Clear, FirstClear}
+use Rattle.search.specs.inner.Kept.{Sized, Place, Listed, Passed, Lowest, Mendable, Mended}
 
 -- with one guard everywhere, past every row is no further than the top and the guard
 past-guarded : (table : List (List Bool)) (widths : List ℕ) (guard : ℕ) (rows : List Row) (i : ℕ) →

@@ -1,20 +1,22 @@
 -- What the search of a request replies, and what the two lent buffers hold afterwards.
-use Prim.Native.Nat.{ℕ, _+_}
-use mathlib.Core.Bool.{Bool, true, false, cond}
-use mathlib.Core.List.{List, [], _∷_, _++_, map}
-use lib.ListN.{length, drop}
-use lib.Dec.{ltb}
-use Rattle.refusal.specs.declared.Refusal.{Refusal}
-use Rattle.refusal.specs.declared.Refusal.the-variants.{BufferShort, TooManyToSearch}
-use Rattle.theory.specs.Problem.{Row, startIn}
+use Prim.Native.Nat.{ℕ}
+use mathlib.Core.Bool.{Bool, true, false}
+use mathlib.Core.List.{List, [], _∷_}
+use lib.ListN.{length}
+use lib.Dec.{leb}
+use Rattle.refusal.specs.declared.Refusal.the-variants.{TooManyToSearch}
+use Rattle.refusal.specs.Told.{Told, refusalTold}
 use Rattle.theory.specs.Orders.{listing}
 use Rattle.theory.specs.Walk.{Best, none-met, met}
 use Rattle.theory.specs.Search as theory
 use Rattle.request.specs.declared.Checked.{Checked}
 use Rattle.request.specs.declared.Checked.the-variants.{Sound, Refused}
 use Rattle.request.specs.View.{View}
-use Rattle.request.specs.Check.{then, check}
-use Rattle.placing.specs.Placing.{problemOf, boundOf}
+use Rattle.request.specs.Check.{then, must, check}
+use Rattle.lent.specs.Lent.{checkRoom, over, unlessRefused}
+use Rattle.meeting.specs.Plan.{startsOf}
+use Rattle.request.specs.Sharing.{problemOf}
+use Rattle.meeting.specs.Bound.{boundOf}
 use Rattle.search.specs.declared.Outcome.{Outcome}
 use Rattle.search.specs.declared.Outcome.the-variants.{Finished, NothingFits, Unfinished, UnfinishedEmpty}
 use Rattle.search.specs.declared.Answer.{Answer}
@@ -32,12 +34,12 @@ outcomeTold theory.nothing-fits = NothingFits
 outcomeTold (theory.unfinished e) = Unfinished e
 outcomeTold theory.unfinished-empty = UnfinishedEmpty
 
--- what an outcome says: which of the four it is
+-- what an outcome says: which of the four it is, 1 to 4, so that 0 is none
 unfoldable pub outcomeNumber : Outcome → ℕ
-outcomeNumber (Finished e) = 0
-outcomeNumber NothingFits = 1
-outcomeNumber (Unfinished e) = 2
-outcomeNumber UnfinishedEmpty = 3
+outcomeNumber (Finished e) = 1
+outcomeNumber NothingFits = 2
+outcomeNumber (Unfinished e) = 3
+outcomeNumber UnfinishedEmpty = 4
 
 -- and the end of its plan, 0 without one
 unfoldable pub outcomeEnd : Outcome → ℕ
@@ -60,31 +62,21 @@ answerTold a =
     record { outcome = outcomeTold (a .outcome); bound = a .bound; steps = a .steps; reached = a .reached; ruled = a .ruled }
 
 -- after the request: 11, then 10 for the starts, then 10 for the order
-unfoldable pub checkRoom : ℕ → ℕ → ℕ → Checked
-unfolding then
-checkRoom K startsRoom orderRoom =
-    then (cond (ltb 20 K) (Refused (TooManyToSearch K)) Sound)
-    (then (cond (ltb startsRoom K) (Refused (BufferShort K)) Sound)
-    (cond (ltb orderRoom K) (Refused (BufferShort K)) Sound))
+unfoldable pub checkRooms : ℕ → ℕ → ℕ → Checked
+unfolding then must checkRoom
+checkRooms K startsRoom orderRoom =
+    then (must (leb K 20) (TooManyToSearch K)) (then (checkRoom K startsRoom) (checkRoom K orderRoom))
 
 -- all that a search tests before its first step
 unfoldable pub checkSearch : View → ℕ → ℕ → Checked
-unfolding then check checkRoom
-checkSearch v startsRoom orderRoom = then (check v) (checkRoom (v .demandCount) startsRoom orderRoom)
+unfolding then check checkRooms
+checkSearch v startsRoom orderRoom = then (check v) (checkRooms (v .demandCount) startsRoom orderRoom)
 
 -- the reply: the refusal, or the answer
 unfoldable pub replyTo : Checked → theory.Answer → SearchReply
 unfolding answerTold
 replyTo (Refused why) a = reply.Refused why
 replyTo Sound a = reply.Answered (answerTold a)
-
--- the starts by listing position that rows give K demands
-unfoldable pub startsOf : ℕ → List Row → List ℕ
-startsOf K rows = map (startIn rows) (listing K)
-
--- a buffer whose first entries are these, the rest as it was
-unfoldable pub over : List ℕ → List ℕ → List ℕ
-over entries buffer = entries ++ drop (length entries) buffer
 
 -- the buffer of starts after a search: with a plan its K starts, else as it was
 unfoldable pub startsKept : ℕ → Best → List ℕ → List ℕ
@@ -97,11 +89,6 @@ unfoldable pub orderKept : Best → List ℕ → List ℕ
 unfolding over
 orderKept none-met buffer = buffer
 orderKept (met rows order) buffer = over order buffer
-
--- a refusal leaves a buffer as it was
-unfoldable pub unlessRefused : Checked → List ℕ → List ℕ → List ℕ
-unlessRefused (Refused why) before after = before
-unlessRefused Sound before after = after
 
 -- the reply to a request, a limit, and buffers of these lengths
 unfoldable pub searchReply : View → ℕ → ℕ → ℕ → SearchReply
@@ -119,3 +106,11 @@ unfoldable pub orderAfter : View → ℕ → List ℕ → List ℕ → List ℕ
 unfolding checkSearch searched orderKept unlessRefused
 orderAfter v limit starts order =
     unlessRefused (checkSearch v (length starts) (length order)) order (orderKept (searched v limit .best) order)
+
+-- what a reply says: 0, then the outcome's number and end, the bound, the steps, the orders reached, the orders ruled out; or the number
+-- of the fault and its place
+unfoldable pub answeredTold : SearchReply → Told ℕ
+unfolding outcomeNumber outcomeEnd
+answeredTold (reply.Answered a) =
+    (0, outcomeNumber (a .outcome) ∷ outcomeEnd (a .outcome) ∷ a .bound ∷ a .steps ∷ a .reached ∷ a .ruled ∷ [])
+answeredTold (reply.Refused why) = refusalTold why

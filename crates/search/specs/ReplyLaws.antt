@@ -1,104 +1,77 @@
 -- What a search tests, and what its reply and its buffers are then, branch by branch.
-use Prim.Native.Nat.{ℕ, suc, _+_, _≤_, _<_}
-use mathlib.Core.Bool.{Bool, true, false, cond, false≢true}
-use mathlib.Core.List.{List, [], _∷_, _++_, append-assoc}
+use Prim.Native.Nat.{ℕ, _≤_, _<_}
+use mathlib.Core.Bool.{true, false, false≢true}
+use mathlib.Core.List.{List, []}
 use mathlib.Core.Path.{_≡_, refl, sym, ap, ap₂, _∙_}
-use borrow.Author.Tests.{lt-ltb, le-ltb, ltb-false}
+use borrow.Author.Tests.{leb-true, lt-leb, le-leb}
 use native.Mathlib.Omega.{arith}
-use native.Mathlib.Numerals.{add-one}
-use lib.ListN.{length, take, drop, set, getD}
-use lib.Seq.{drop-cons, set-at, take-suc, length-take-le}
-use lib.Dec.{ltb}
+use lib.ListN.{length, getD}
+use lib.Dec.{leb}
 use Rattle.refusal.specs.declared.Refusal.{Refusal}
-use Rattle.refusal.specs.declared.Refusal.the-variants.{BufferShort, TooManyToSearch}
+use Rattle.refusal.specs.declared.Refusal.the-variants.{TooManyToSearch}
+use Rattle.refusal.specs.Told.{Told}
+use Rattle.refusal.specs.ToldLaws.{refusal-told-whole, refusal-told-fault}
 use Rattle.theory.specs.Problem.{Row}
 use Rattle.theory.specs.Walk.{Best, none-met, met, Course, going, at-bound, out-of-steps}
 use Rattle.theory.specs.Search as theory
 use Rattle.request.specs.declared.Checked.{Checked}
 use Rattle.request.specs.declared.Checked.the-variants.{Sound, Refused}
 use Rattle.request.specs.View.{View}
-use Rattle.request.specs.Check.{then, check}
-use Rattle.request.specs.CheckLaws.{then-sound, then-refused, first-sound, next-sound}
-use Rattle.request.specs.SoundLaws.{not-refused}
-use Rattle.placing.specs.declared.BoundReply.the-variants as bound-reply
-use Rattle.placing.specs.Placing.{boundOf}
-use Rattle.placing.specs.Reply.{boundReply}
-use Rattle.placing.specs.ReplyLaws.{bound-answered}
+use Rattle.request.specs.Check.{then, check, must}
+use Rattle.request.specs.CheckLaws.{then-sound, then-refused, first-sound, next-sound, test-held, by-check}
+use Rattle.meeting.specs.declared.BoundReply.the-variants as bound-reply
+use Rattle.meeting.specs.Bound.{boundOf}
+use Rattle.meeting.specs.Reply.{boundReply}
+use Rattle.meeting.specs.ReplyLaws.{bound-answered, bound-refused}
+use Rattle.search.specs.declared.Outcome.{Outcome}
+use Rattle.search.specs.declared.Outcome.the-variants.{Finished, NothingFits, Unfinished, UnfinishedEmpty}
+use Rattle.search.specs.declared.Answer.{Answer}
 use Rattle.search.specs.declared.SearchReply.{SearchReply}
 use Rattle.search.specs.declared.SearchReply.the-variants as reply
-use Rattle.search.specs.Told.{isSpent, isMet}
-use Rattle.search.specs.Reply.{outcomeTold, outcomeBy, answerTold, checkRoom, checkSearch, replyTo, searched, startsOf, over, startsKept, orderKept, unlessRefused, searchReply, startsAfter, orderAfter}
-use Rattle.search.specs.Found.{Searchable}
+use Rattle.search.specs.inner.Told.{isSpent, isMet}
+use Rattle.search.specs.Reply.{outcomeTold, outcomeNumber, outcomeEnd, outcomeBy, answerTold, checkRooms, checkSearch, replyTo, searched, startsKept, orderKept, searchReply, startsAfter, orderAfter, answeredTold}
+use Rattle.lent.specs.Lent.{over, unlessRefused, checkRoom}
+use Rattle.meeting.specs.Plan.{startsOf}
+use Rattle.search.specs.inner.Found.{Searchable}
 
 -- more than 20 demands
-pub room-many : (K a b : ℕ) → 20 < K → Refused (TooManyToSearch K) ≡ checkRoom K a b
-unfolding checkRoom then
-room-many K a b h = rw (lt-ltb 20 K h)
+pub rooms-many : (K a b : ℕ) → 20 < K → checkRooms K a b ≡ Refused (TooManyToSearch K)
+unfolding checkRooms then must
+rooms-many K a b h = rw (lt-leb K 20 h)
+
+-- at most 20: the buffer for the starts, then the one for the order
+rooms-few : (K a b : ℕ) → K ≤ 20 → checkRooms K a b ≡ then (checkRoom K a) (checkRoom K b)
+unfolding checkRooms then must
+rooms-few K a b h = rw (le-leb K 20 h)
 
 -- too short a buffer for the starts
-pub room-starts : (K a b : ℕ) → K ≤ 20 → a < K → Refused (BufferShort K) ≡ checkRoom K a b
-unfolding checkRoom then
-room-starts K a b h k = rw (le-ltb 20 K h, lt-ltb a K k)
+pub rooms-starts : (K a b : ℕ) (why : Refusal) → K ≤ 20 → checkRoom K a ≡ Refused why → checkRooms K a b ≡ Refused why
+rooms-starts K a b why h short = rooms-few K a b h ∙ then-refused (checkRoom K a) (checkRoom K b) why short
 
 -- too short a buffer for the order
-pub room-order : (K a b : ℕ) → K ≤ 20 → K ≤ a → b < K → Refused (BufferShort K) ≡ checkRoom K a b
-unfolding checkRoom then
-room-order K a b h k l = rw (le-ltb 20 K h, le-ltb a K k, lt-ltb b K l)
+pub rooms-order : (K a b : ℕ) → K ≤ 20 → checkRoom K a ≡ Sound → checkRooms K a b ≡ checkRoom K b
+rooms-order K a b h long = rooms-few K a b h ∙ then-sound (checkRoom K a) (checkRoom K b) long
 
--- room enough
-pub room-enough : (K a b : ℕ) → K ≤ 20 → K ≤ a → K ≤ b → Sound ≡ checkRoom K a b
-unfolding checkRoom then
-room-enough K a b h k l = rw (le-ltb 20 K h, le-ltb a K k, le-ltb b K l)
-
--- a search that passed its tests is one of a sound request of at most 20 demands, and both buffers have room
+-- a search that passed its tests is one of a sound request of at most 20 demands
 pub passed-searchable : (v : View) (a b : ℕ) → checkSearch v a b ≡ Sound → Searchable v
-unfolding checkSearch checkRoom
+unfolding checkSearch checkRooms
 passed-searchable v a b h =
     record {
-      sound = first-sound (check v) (checkRoom (v .demandCount) a b) h;
-      few = ltb-false 20 (v .demandCount)
-          (not-refused (ltb 20 (v .demandCount)) (TooManyToSearch (v .demandCount))
-          (first-sound (cond (ltb 20 (v .demandCount)) (Refused (TooManyToSearch (v .demandCount))) Sound) (room-buffers v a b)
-          (next-sound (check v) (checkRoom (v .demandCount) a b) h)));
+      sound = first-sound (check v) (checkRooms (v .demandCount) a b) h;
+      few = leb-true (v .demandCount) 20
+          (test-held (leb (v .demandCount) 20) (TooManyToSearch (v .demandCount))
+          (first-sound (must (leb (v .demandCount) 20) (TooManyToSearch (v .demandCount))) (then (checkRoom (v .demandCount) a) (checkRoom (v .demandCount) b))
+          (next-sound (check v) (checkRooms (v .demandCount) a b) h)));
     }
-  where
-    room-buffers : View → ℕ → ℕ → Checked
-    room-buffers v a b = then (cond (ltb a (v .demandCount)) (Refused (BufferShort (v .demandCount))) Sound) (cond (ltb b (v .demandCount)) (Refused (BufferShort (v .demandCount))) Sound)
-
-pub passed-starts : (v : View) (a b : ℕ) → checkSearch v a b ≡ Sound → v .demandCount ≤ a
-unfolding checkSearch checkRoom
-passed-starts v a b h =
-    ltb-false a K
-    (not-refused (ltb a K) (BufferShort K)
-    (first-sound (cond (ltb a K) (Refused (BufferShort K)) Sound) (cond (ltb b K) (Refused (BufferShort K)) Sound)
-    (next-sound (cond (ltb 20 K) (Refused (TooManyToSearch K)) Sound)
-    (then (cond (ltb a K) (Refused (BufferShort K)) Sound) (cond (ltb b K) (Refused (BufferShort K)) Sound))
-    (next-sound (check v) (checkRoom K a b) h))))
-  where
-    K : ℕ
-    K = v .demandCount
-
-pub passed-order : (v : View) (a b : ℕ) → checkSearch v a b ≡ Sound → v .demandCount ≤ b
-unfolding checkSearch checkRoom
-passed-order v a b h =
-    ltb-false b K
-    (not-refused (ltb b K) (BufferShort K)
-    (next-sound (cond (ltb a K) (Refused (BufferShort K)) Sound) (cond (ltb b K) (Refused (BufferShort K)) Sound)
-    (next-sound (cond (ltb 20 K) (Refused (TooManyToSearch K)) Sound)
-    (then (cond (ltb a K) (Refused (BufferShort K)) Sound) (cond (ltb b K) (Refused (BufferShort K)) Sound))
-    (next-sound (check v) (checkRoom K a b) h))))
-  where
-    K : ℕ
-    K = v .demandCount
 
 -- of a sound request the room is tested, of any other nothing
-pub tested-room : (v : View) (a b : ℕ) → check v ≡ Sound → checkRoom (v .demandCount) a b ≡ checkSearch v a b
+pub tested-room : (v : View) (a b : ℕ) → check v ≡ Sound → checkRooms (v .demandCount) a b ≡ checkSearch v a b
 unfolding checkSearch
-tested-room v a b h = sym (then-sound (check v) (checkRoom (v .demandCount) a b) h)
+tested-room v a b h = sym (then-sound (check v) (checkRooms (v .demandCount) a b) h)
 
 pub tested-request : (v : View) (a b : ℕ) (why : Refusal) → check v ≡ Refused why → Refused why ≡ checkSearch v a b
 unfolding checkSearch
-tested-request v a b why h = sym (then-refused (check v) (checkRoom (v .demandCount) a b) why h)
+tested-request v a b why h = sym (then-refused (check v) (checkRooms (v .demandCount) a b) why h)
 
 -- the outcome of a walk goes by whether its steps were spent and whether it met a plan
 pub outcome-by : (c : Course) (b : Best) (mark : ℕ) → outcomeBy (isSpent c) (isMet b) mark ≡ outcomeTold (theory.outcomeOf c b mark)
@@ -166,34 +139,65 @@ unfolding orderKept isMet
 no-plan-order none-met buffer h = refl
 no-plan-order (met rows order) buffer h = absurd (false≢true (sym h))
 
--- the bound of a sound request is answered
-pub sound-bound : (v : View) (need : ℕ) → check v ≡ Sound → bound-reply.Bound need ≡ boundReply v → need ≡ boundOf v
-sound-bound v need sound h = let same : bound-reply.Bound need ≡ bound-reply.Bound (boundOf v) = h ∙ sym (bound-answered v (boundOf v) sound refl) in cc
+-- a bound in reply: the request is sound, and it is its bound
+pub bound-known : (v : View) (need : ℕ) → bound-reply.Bound need ≡ boundReply v → (check v ≡ Sound) × (need ≡ boundOf v)
+bound-known v need h =
+    by-check (check v)
+    (λ (sound : check v ≡ Sound).
+    let same : bound-reply.Bound need ≡ bound-reply.Bound (boundOf v) = h ∙ sym (bound-answered v (boundOf v) sound refl) in (sound, cc))
+    (λ (why : Refusal) (refused : check v ≡ Refused why).
+    let same : bound-reply.Bound need ≡ bound-reply.Refused why = h ∙ sym (bound-refused v why refused) in
+    absurd (let z : _≡_ {A = ℕ} 0 1 = cc in omega arith))
 
-pub sound-not-refused : {C : Type 0} (v : View) (why : Refusal) → check v ≡ Sound → bound-reply.Refused why ≡ boundReply v → C
-sound-not-refused v why sound h =
+-- a refusal in reply is the request's
+pub refusal-known : (v : View) (why : Refusal) → bound-reply.Refused why ≡ boundReply v → check v ≡ Refused why
+refusal-known v why h =
+    by-check (check v)
+    (λ (sound : check v ≡ Sound).
     let same : bound-reply.Refused why ≡ bound-reply.Bound (boundOf v) = h ∙ sym (bound-answered v (boundOf v) sound refl) in
-    absurd (let z : _≡_ {A = ℕ} 0 1 = cc in omega arith)
+    absurd (let z : _≡_ {A = ℕ} 0 1 = cc in omega arith))
+    (λ (other : Refusal) (refused : check v ≡ Refused other).
+    let same : bound-reply.Refused why ≡ bound-reply.Refused other = h ∙ sym (bound-refused v other refused) in refused ∙ cc)
 
--- no entry written leaves a buffer as it was
-pub over-none : (entries buffer : List ℕ) → buffer ≡ over (take 0 entries) buffer
-unfolding over
-over-none entries buffer = refl
+-- an outcome is its number and its end
+pub same-outcome : (o o′ : Outcome) → outcomeNumber o ≡ outcomeNumber o′ → outcomeEnd o ≡ outcomeEnd o′ → o ≡ o′
+unfolding outcomeNumber outcomeEnd
+same-outcome (Finished e) (Finished e′) n end = ap Finished end
+same-outcome (Finished e) NothingFits n end = absurd (omega (arith, n))
+same-outcome (Finished e) (Unfinished e′) n end = absurd (omega (arith, n))
+same-outcome (Finished e) UnfinishedEmpty n end = absurd (omega (arith, n))
+same-outcome NothingFits (Finished e′) n end = absurd (omega (arith, n))
+same-outcome NothingFits NothingFits n end = refl
+same-outcome NothingFits (Unfinished e′) n end = absurd (omega (arith, n))
+same-outcome NothingFits UnfinishedEmpty n end = absurd (omega (arith, n))
+same-outcome (Unfinished e) (Finished e′) n end = absurd (omega (arith, n))
+same-outcome (Unfinished e) NothingFits n end = absurd (omega (arith, n))
+same-outcome (Unfinished e) (Unfinished e′) n end = ap Unfinished end
+same-outcome (Unfinished e) UnfinishedEmpty n end = absurd (omega (arith, n))
+same-outcome UnfinishedEmpty (Finished e′) n end = absurd (omega (arith, n))
+same-outcome UnfinishedEmpty NothingFits n end = absurd (omega (arith, n))
+same-outcome UnfinishedEmpty (Unfinished e′) n end = absurd (omega (arith, n))
+same-outcome UnfinishedEmpty UnfinishedEmpty n end = refl
 
--- one more entry written
-pub over-more : (entries buffer : List ℕ) (k : ℕ) → k < length entries → k < length buffer →
-    set (over (take k entries) buffer) k (getD entries k 0) ≡ over (take (k + 1) entries) buffer
-unfolding over
-over-more entries buffer k h l =
-    ap (λ (n : ℕ). set (take k entries ++ drop n buffer) k (getD entries k 0)) first
-    ∙ ap (λ (rest : List ℕ). set (take k entries ++ rest) k (getD entries k 0)) (drop-cons buffer k 0 l)
-    ∙ set-at (take k entries) (getD buffer k 0) (drop (suc k) buffer) (getD entries k 0) k first
-    ∙ sym (append-assoc (take k entries) (getD entries k 0 ∷ []) (drop (suc k) buffer))
-    ∙ ap (λ (front : List ℕ). front ++ drop (suc k) buffer) (sym (take-suc entries k 0 h))
-    ∙ ap₂ (λ (front : List ℕ) (n : ℕ). front ++ drop n buffer) (ap (λ (n : ℕ). take n entries) (sym (add-one k))) (sym (length-take-le (k + 1) entries (omega arith) ∙ add-one k))
-  where
-    first : length (take k entries) ≡ k
-    first = length-take-le k entries (omega arith)
+-- two answers of the same numbers are equal
+pub same-numbers : (a a′ : Answer) → a .outcome ≡ a′ .outcome → a .bound ≡ a′ .bound → a .steps ≡ a′ .steps → a .reached ≡ a′ .reached → a .ruled ≡ a′ .ruled → a ≡ a′
+same-numbers a a′ ho hb hs hr hx =
+    ap (λ (o : Outcome). record { outcome = o; bound = a .bound; steps = a .steps; reached = a .reached; ruled = a .ruled }) ho
+    ∙ (ap₂ (λ (b s : ℕ). record { outcome = a′ .outcome; bound = b; steps = s; reached = a .reached; ruled = a .ruled }) hb hs
+    ∙ ap₂ (λ (r x : ℕ). record { outcome = a′ .outcome; bound = a′ .bound; steps = a′ .steps; reached = r; ruled = x }) hr hx)
+
+-- two replies that are told alike are the same
+pub answered-told-whole : (r r′ : SearchReply) → answeredTold r ≡ answeredTold r′ → r ≡ r′
+unfolding answeredTold
+answered-told-whole (reply.Answered a) (reply.Answered a′) h =
+    ap reply.Answered
+    (same-numbers a a′
+    (same-outcome (a .outcome) (a′ .outcome) (ap (λ (t : Told ℕ). getD (t .1) 0 0) h) (ap (λ (t : Told ℕ). getD (t .1) 1 0) h))
+    (ap (λ (t : Told ℕ). getD (t .1) 2 0) h) (ap (λ (t : Told ℕ). getD (t .1) 3 0) h)
+    (ap (λ (t : Told ℕ). getD (t .1) 4 0) h) (ap (λ (t : Told ℕ). getD (t .1) 5 0) h))
+answered-told-whole (reply.Answered a) (reply.Refused why) h = absurd (refusal-told-fault why _ _ (sym h))
+answered-told-whole (reply.Refused why) (reply.Answered a) h = absurd (refusal-told-fault why _ _ h)
+answered-told-whole (reply.Refused why) (reply.Refused why′) h = ap reply.Refused (refusal-told-whole why why′ h)
 
 -- two results that meet the contract of `search` are equal, and leave the same in both buffers
 pub same-search : (v : View) (limit : ℕ) (starts order : List ℕ) (a a′ : SearchReply) (s s′ o o′ : List ℕ) →

@@ -11,7 +11,7 @@ use borrow.Author.Tests.{ltb-true, lt-ltb}
 use lib.Dec.{ltb}
 use lib.ListN.{getD}
 use Rattle.theory.specs.TestLaws.{by-test, and-both, and-first, and-second}
-use Rattle.search.specs.Scan.{lookPast, Clear, FirstClear, Unpassed}
+use Rattle.search.specs.inner.Scan.{lookPast, Clear, FirstClear, Unpassed}
 
 module _ (near : List Bool) (low past : List ℕ) where
   -- a look at no demand stays where it is

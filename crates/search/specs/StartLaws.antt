@@ -1,7 +1,7 @@
 -- The walk from its start, and what its end tells.
 use Prim.Native.Nat.{ℕ, zero, suc, _+_, _-_, _*_, _≤_, _<_}
 use mathlib.Core.Bool.{Bool}
-use mathlib.Core.List.{List, [], _∷_, List·Memᴰ, List·Memᴰ·head, List·Memᴰ·not-nil, List·Memᴰ·cases-cons, Memᴰ·append-left, Memᴰ·append-right}
+use mathlib.Core.List.{List, [], _∷_, List·Memᴰ, List·Memᴰ·head, List·Memᴰ·not-nil, List·Memᴰ·cases-cons, Memᴰ·append-left, Memᴰ·append-right, map}
 use mathlib.Core.Logic.{⊎-elim}
 use mathlib.Core.Path.{_≡_, refl, sym, subst, ap, _∙_}
 use native.Mathlib.Omega.{arith}
@@ -16,17 +16,18 @@ use Rattle.theory.specs.Problem.{Problem, Row, fill, top, lowest, startIn}
 use Rattle.theory.specs.ProblemLaws.{lowest-nil, top-nil, start-here, start-other}
 use Rattle.theory.specs.Search.{fresh}
 use Rattle.theory.specs.TestLaws.{by-test}
-use Rattle.theory.specs.Tried.{Leads, unbeaten, taken, Lead, leadOf, leadBy}
+use Rattle.theory.specs.inner.Tried.{Leads, unbeaten, taken, Lead, leadOf, leadBy}
 use Rattle.theory.specs.Walk.{Best, none-met, met, Tally, siblings, walk}
 use Rattle.theory.specs.WalkBranchLaws.{walk-siblings}
 use Rattle.theory.specs.WalkLaws.{walk-walked, walked-leads, walk-mark, walk-steps-held}
-use Rattle.search.specs.Arrays.{problemOf, entries, rowsOf, courseOf, bestOf, tallyOf}
+use Rattle.search.specs.inner.Arrays.{problemOf, entries, rowsOf, courseOf, bestOf, tallyOf}
 use Rattle.search.specs.ArraysLaws.{rows-none}
 use Rattle.search.specs.FactorialLaws.{factorial-most}
-use Rattle.search.specs.Kept.{Sized, Lowest, Ready}
+use Rattle.search.specs.inner.Kept.{Sized, Lowest, Ready}
 use Rattle.search.specs.StepLaws.{orders-below}
-use Rattle.search.specs.Told.{isSpent, isMet}
-use Rattle.search.specs.Tries.{triedFrom, Counting}
+use Rattle.search.specs.inner.Told.{isSpent, isMet}
+use Rattle.search.specs.inner.Tries.{triedFrom, Counting}
+use Rattle.meeting.specs.MeetingLaws.{listing-at}
 
 -- the entries of a list that counts up are the numbers themselves
 entries-counted : (list : List ℕ) (from n : ℕ) → ((q : ℕ) → q < n → getD list (from + q) 0 ≡ from + q) →
@@ -257,3 +258,15 @@ module _ (P : Problem) (limit bound K S : ℕ) (cells plan along : List ℕ)
         ap (λ (t : Tally). t .mark) ended,
         walk-mark P limit bound K [] [] (listing K) (fresh (S + 1)) refl (listing-length K),
       )
+
+-- twenty listing positions, one by one
+abbrev pub twenty : List ℕ
+twenty = 0 ∷ 1 ∷ 2 ∷ 3 ∷ 4 ∷ 5 ∷ 6 ∷ 7 ∷ 8 ∷ 9 ∷ 10 ∷ 11 ∷ 12 ∷ 13 ∷ 14 ∷ 15 ∷ 16 ∷ 17 ∷ 18 ∷ 19 ∷ []
+
+twenty-all : twenty ≡ map (λ (j : ℕ). j) (listing 20)
+unfolding listing countUp
+twenty-all = refl
+
+-- they are the listing positions in listing order
+pub twenty-listed : (k : ℕ) → k < 20 → getD twenty k 0 ≡ k
+twenty-listed k h = ap (λ (l : List ℕ). getD l k 0) twenty-all ∙ listing-at (λ (j : ℕ). j) 20 k 0 h

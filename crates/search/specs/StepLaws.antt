@@ -12,13 +12,13 @@ use Rattle.theory.specs.OrdersLaws.{factorial-suc, factorial-pos}
 use Rattle.theory.specs.Problem.{Problem, Row, endOf, place, top}
 use Rattle.theory.specs.ProblemLaws.{place-is, top-place}
 use Rattle.theory.specs.Walk.{Tally, stepped, leave, goes-on, complete}
-use Rattle.search.specs.Arrays.{problemOf, entries, rowsOf, courseOf, tallyOf}
+use Rattle.search.specs.inner.Arrays.{problemOf, entries, rowsOf, courseOf, tallyOf}
 use Rattle.search.specs.ArraysLaws.{rows-more}
 use Rattle.search.specs.FactorialLaws.{factorial-fits}
-use Rattle.search.specs.Kept.{Lowest, Ready}
+use Rattle.search.specs.inner.Kept.{Lowest, Ready}
 use Rattle.search.specs.KeptLaws.{kept-bounded}
 use Rattle.search.specs.TallyLaws.{cells-stepped, cells-left, cells-spent}
-use Rattle.search.specs.Tries.{reachedAt, triedFrom, goneInto, Counting}
+use Rattle.search.specs.inner.Tries.{reachedAt, triedFrom, goneInto, Counting}
 use Rattle.search.specs.TriesLaws.{complete-reached, tried-spent, tried-last, tried-left, tried-into, tried-ended, gone-mark, gone-counts}
 
 -- the orders below the siblings from place p on are those below the one there and those below the rest

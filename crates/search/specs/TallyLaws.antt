@@ -10,8 +10,8 @@ use lib.ListN.{getD, set, length, length-set}
 use lib.Seq.{getD-set-same, getD-set-other}
 use Rattle.theory.specs.Problem.{Row}
 use Rattle.theory.specs.Walk.{Best, Course, at-bound, Tally, stepped, leave, exhausted, equalled, improved}
-use Rattle.search.specs.Arrays.{entries, rowsOf, courseOf, bestOf, tallyOf}
-use Rattle.search.specs.Tries.{reachedAt}
+use Rattle.search.specs.inner.Arrays.{entries, rowsOf, courseOf, bestOf, tallyOf}
+use Rattle.search.specs.inner.Tries.{reachedAt}
 
 -- tallies with the same parts are the same
 alike : (s r x m s' r' x' m' : ℕ) (b b' : Best) (c c' : Course) → s ≡ s' → r ≡ r' → x ≡ x' → m ≡ m' → b ≡ b' → c ≡ c' →

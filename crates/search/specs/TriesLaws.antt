@@ -11,9 +11,9 @@ use Rattle.theory.specs.TestLaws.{by-test}
 use Rattle.theory.specs.Walk.{Tally, going, stepped, leave, exhausted, goes-on, complete, judge, step, siblings, walk}
 use Rattle.theory.specs.WalkBranchLaws.{judge-complete, judge-left, judge-deeper, step-spent, step-taken, siblings-none, siblings-on, siblings-stop}
 use Rattle.theory.specs.WalkLaws.{walk-mark, walk-counts}
-use Rattle.search.specs.Arrays.{entries, rowsOf}
+use Rattle.search.specs.inner.Arrays.{entries, rowsOf}
 use Rattle.search.specs.ArraysLaws.{entries-none, entries-first, entries-last, entries-length}
-use Rattle.search.specs.Tries.{reachedAt, triedFrom, goneInto}
+use Rattle.search.specs.inner.Tries.{reachedAt, triedFrom, goneInto}
 
 -- a complete order is reached at the top of its rows
 pub complete-reached : (P : Problem) (limit bound : ℕ) (rows : List Row) (order : List ℕ) (t : Tally) →

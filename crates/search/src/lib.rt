@@ -9,13 +9,14 @@ ghost use Rattle.theory.specs.Orders as orders;
 ghost use Rattle.theory.specs.Problem as problem;
 ghost use Rattle.theory.specs.Walk as walk;
 ghost use Rattle.theory.specs.Search as theory;
-ghost use Rattle.search.specs.Arrays.{problemOf, entries, rowsOf, tallyOf};
-ghost use Rattle.search.specs.Scan.{lookPast, FirstClear};
-ghost use Rattle.search.specs.Kept.{Sized, Ready, Mendable, Mended, Brought};
-ghost use Rattle.search.specs.Told.{Told};
-ghost use Rattle.search.specs.Tries.{reachedAt, triedFrom, goneInto, Counting};
+ghost use Rattle.search.specs.inner.Arrays.{problemOf, entries, rowsOf, tallyOf};
+ghost use Rattle.search.specs.inner.Scan.{lookPast, FirstClear};
+ghost use Rattle.search.specs.inner.Kept.{Sized, Ready, Mendable, Mended, Brought};
+ghost use Rattle.search.specs.inner.Told.{Told};
+ghost use Rattle.search.specs.inner.Tries.{reachedAt, triedFrom, goneInto, Counting};
 
 mod call;
+mod table;
 
 pub use call::search;
 
@@ -51,7 +52,7 @@ struct Found {
 }
 
 // What a walk over the orders answers: its counts, the mark it leaves, whether a step was due with none left, and whether a plan was
-// met; of a plan the starts by listing position and the order.
+// met; of a plan each demand's start and the order.
 struct Walked {
     steps: u32,
     reached: u64,
@@ -420,18 +421,28 @@ fn sibling(
 }
 
 // The listing positions in listing order.
-fn in_listing_order(count: usize) -> [u16; 20]
-    requires { ⌜ count ≤ 20 ⌝ }
-    ensures { λ r. ⌜ ((k : ℕ) → k < count → getD r k 0 ≡ k) ⌝ }
-{
-    let mut order = [0u16; 20];
-    let mut p: usize = 0;
-    while p < count {
-        order[p] = p as u16;
-        p += 1;
-    }
-    order
-}
+const LISTING: [u16; 20] = [
+    0,
+    1,
+    2,
+    3,
+    4,
+    5,
+    6,
+    7,
+    8,
+    9,
+    10,
+    11,
+    12,
+    13,
+    14,
+    15,
+    16,
+    17,
+    18,
+    19,
+];
 
 // The walk over all orders of `count` demands, from its start.
 fn walk_orders(
@@ -448,7 +459,7 @@ fn walk_orders(
     ensures { λ r. ⌜ Told count
         (walk.walk (problemOf table widths guard) limit bound count [] [] (orders.listing count) (theory.fresh (slots + 1))) r ⌝ }
 {
-    let order = in_listing_order(count);
+    let order = LISTING;
     let low = [0u16; 20];
     let past = [0u16; 20];
     let mut tally = [0u64; 6];

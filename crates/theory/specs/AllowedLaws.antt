@@ -1,8 +1,8 @@
 -- An allowed plan for some of its demands, under another limit, and where it ends.
 use Prim.Native.Nat.{ℕ, _≤_}
 use mathlib.Core.List.{List, [], List·Memᴰ}
-use Rattle.theory.specs.Problem.{Problem, Row, endOf, top, Allowed, planEnd}
-use Rattle.theory.specs.ProblemLaws.{fits-nil, planEnd-above, planEnd-least}
+use Rattle.theory.specs.Problem.{Problem, Row, endOf, Allowed, planEnd}
+use Rattle.theory.specs.ProblemLaws.{fits-nil, planEnd-above}
 
 -- a plan that is allowed for a list is allowed for each list of some of its demands
 pub allowed-part : (P : Problem) (S : ℕ) (rows : List Row) (todo part : List ℕ) (plan : ℕ → ℕ) →
@@ -31,8 +31,3 @@ pub allowed-alone : (P : Problem) (S : ℕ) (rows : List Row) (todo : List ℕ) 
     Allowed P S [] todo plan
 allowed-alone P S rows todo plan a =
     record { within = a .within; clear-of-rows = λ i m. fits-nil P i (plan i); clear-of-others = a .clear-of-others }
-
--- an allowed plan beside rows within S ends within S
-pub allowed-end : (P : Problem) (S : ℕ) (rows : List Row) (todo : List ℕ) (plan : ℕ → ℕ) → top P rows ≤ S →
-    Allowed P S rows todo plan → planEnd P rows todo plan ≤ S
-allowed-end P S rows todo plan h a = planEnd-least P rows todo plan S h (a .within)

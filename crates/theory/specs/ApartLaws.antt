@@ -79,10 +79,6 @@ pub clash-from : (P : Problem) (i s j t : ℕ) → P .joined i j ≡ true → t 
 clash-from P i s j t e h k =
     not-true-false (apart P i s j t) (λ a. ⊎-elim (λ b. omega arith) (λ b. omega arith) (apart-cases P i s j t a e))
 
--- a row that a start has passed, gap included, clashes there with nothing, nor at any higher start
-pub passed-apart : (P : Problem) (j t i s u : ℕ) → endOf P j t + P .gap j i ≤ s → s ≤ u → apart P j t i u ≡ true
-passed-apart P j t i s u h k = before-apart P j t i u (omega arith)
-
 -- a row that clashes at a start clashes at every higher one, until that passes the row's end and gap
 pub clash-lasts : (P : Problem) (j t i s u : ℕ) → apart P j t i s ≡ false → s ≤ u → u < endOf P j t + P .gap j i →
     apart P j t i u ≡ false

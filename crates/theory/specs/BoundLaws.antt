@@ -9,9 +9,9 @@ use native.Mathlib.Omega.{arith}
 use lib.ListN.{length}
 use Rattle.theory.specs.Problem.{Problem, Row, endOf, apart, Allowed, planEnd}
 use Rattle.theory.specs.Arrange.{Arrange}
-use Rattle.theory.specs.Bound.{packed, widths, AllMeet}
+use Rattle.theory.specs.inner.Bound.{packed, widths, AllMeet}
 use Rattle.theory.specs.Earlier.{NoRepeats}
-use Rattle.theory.specs.ByStart.{NeverFalling}
+use Rattle.theory.specs.inner.AsLow.{NeverFalling}
 use Rattle.theory.specs.ApartLaws.{apart-cases}
 use Rattle.theory.specs.ArrangeLaws.{arrange-mem, arrange-no-repeats, arrange-length, no-repeats-first, no-repeats-rest}
 use Rattle.theory.specs.ProblemLaws.{end-is}

@@ -9,7 +9,8 @@ use lib.ListN.{length, length-append}
 use borrow.Author.Tests.{leb-true, leb-false}
 use Rattle.theory.specs.Arrange.{Arrange}
 use Rattle.theory.specs.Earlier.{StandsBefore, Chained}
-use Rattle.theory.specs.ByStart.{NeverFalling, ByStart}
+use Rattle.theory.specs.inner.AsLow.{NeverFalling}
+use Rattle.theory.specs.ByStart.{ByStart}
 use Rattle.theory.specs.TestLaws.{by-test}
 use Rattle.theory.specs.ArrangeLaws.{mem-wider, arrange-mem}
 use Rattle.theory.specs.EarlierLaws.{chained-split}

@@ -5,7 +5,6 @@ pub mod ArrangeLaws
 pub mod TestLaws
 pub mod ApartLaws
 pub mod ProblemLaws
-pub mod Scan
 pub mod ScanLaws
 pub mod AllowedLaws
 pub mod FillLaws
@@ -13,7 +12,6 @@ pub mod FirstFitLaws
 pub mod ByStart
 pub mod ByStartLaws
 pub mod SufficesLaws
-pub mod Bound
 pub mod BoundLaws
 pub mod Orders
 pub mod Earlier
@@ -21,12 +19,12 @@ pub mod EarlierLaws
 pub mod OrdersLaws
 pub mod Walk
 pub mod WalkBranchLaws
-pub mod Tried
 pub mod TriedLaws
 pub mod WalkLaws
 pub mod LimitLaws
 pub mod Search
-pub mod Promises
 pub mod SearchLaws
+pub mod SettlesLaws
 pub mod ListingLaws
 pub mod AlikeLaws
+pub mod inner

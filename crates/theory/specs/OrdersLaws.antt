@@ -63,12 +63,6 @@ ordersOf-length zero todo h = refl
 ordersOf-length (suc n) todo h =
     spread-length (ordersOf n) n (factorial n) (ordersOf-length n) [] todo (omega arith) ∙ ap (λ (k : ℕ). k * factorial n) h
 
--- each of the elements still to go first brings n! orders
-pub spread-ordersOf-length : (n : ℕ) (before after : List ℕ) → length before + length after ≡ suc n →
-    length (spread (ordersOf n) before after) ≡ length after * factorial n
-spread-ordersOf-length n before after sized =
-    spread-length (ordersOf n) n (factorial n) (ordersOf-length n) before after sized
-
 -- there are as many orders of a list as the factorial of its length
 pub orders-length : (todo : List ℕ) → length (orders todo) ≡ factorial (length todo)
 unfolding orders

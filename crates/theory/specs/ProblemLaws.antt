@@ -149,14 +149,6 @@ lowest-is P rows i s f none-lower =
     (λ e. omega (arith, leb-true s (lowest P rows i) e, lowest-least P rows i s f))
     (λ e. absurd (none-lower (lowest P rows i) (leb-false s (lowest P rows i) e) (lowest-fits P rows i)))
 
--- rows beside which the same starts fit have the same lowest start
-pub lowest-alike : (P : Problem) (rows others : List Row) (i : ℕ) →
-    ((s : ℕ) → fits P rows i s ≡ fits P others i s) → lowest P rows i ≡ lowest P others i
-lowest-alike P rows others i same =
-    let h = lowest-least P rows i (lowest P others i) (same (lowest P others i) ∙ lowest-fits P others i) in
-    let k = lowest-least P others i (lowest P rows i) (sym (same (lowest P rows i)) ∙ lowest-fits P rows i) in
-    omega arith
-
 -- one more row never lowers the lowest start
 pub lowest-rises : (P : Problem) (r : Row) (rows : List Row) (i : ℕ) → lowest P rows i ≤ lowest P (r ∷ rows) i
 lowest-rises P r rows i =

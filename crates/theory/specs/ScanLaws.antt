@@ -7,7 +7,7 @@ use native.Mathlib.Omega.{arith}
 use lib.Dec.{ltb}
 use borrow.Author.Tests.{ltb-true, ltb-false, lt-ltb, le-ltb}
 use Rattle.theory.specs.Problem.{Problem, Row, endOf, apart, fits, lowest}
-use Rattle.theory.specs.Scan.{nextStart, scan, joinedRows, rowsAhead}
+use Rattle.theory.specs.inner.Scan.{nextStart, scan, joinedRows, rowsAhead}
 use Rattle.theory.specs.TestLaws.{by-test, not-both, not-true-false, not-false-true}
 use Rattle.theory.specs.ApartLaws.{clash-facts, clash-lasts}
 use Rattle.theory.specs.ProblemLaws.{fits-nil, fits-with, fits-first, fits-rest, fits-not-first, fits-not-rest, lowest-fits, lowest-least}

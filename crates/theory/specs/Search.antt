@@ -1,5 +1,5 @@
 -- The search: the walk from its start, and the answer that it gives.
-use Prim.Native.Nat.{ℕ, suc, _+_}
+use Prim.Native.Nat.{ℕ, zero, suc, _+_, _*_}
 use mathlib.Core.Bool.{Bool, true, false, cond}
 use mathlib.Core.List.{List, [], _∷_}
 use lib.ListN.{length}
@@ -14,6 +14,13 @@ pub data Outcome : Type 0 where
   nothing-fits : Outcome
   unfinished : ℕ → Outcome
   unfinished-empty : Outcome
+
+-- whether an outcome settles the question
+unfoldable pub settled : Outcome → Bool
+settled (finished e) = true
+settled nothing-fits = true
+settled (unfinished e) = false
+settled unfinished-empty = false
 
 -- what a search answers
 pub record Answer : Type 0 where
@@ -75,3 +82,18 @@ unfolding too-narrow searchWalk
 search P S bound limit rows todo =
     let walked : Answer = searchWalk P S bound limit rows todo in
     cond (ltb S bound) (too-narrow bound (length todo)) walked
+
+-- the steps of the whole tree over n demands, no branch left: a step for each of them, and below it the tree over the others
+unfoldable pub treeSteps : ℕ → ℕ
+treeSteps zero = 0
+treeSteps (suc n) = suc n * (1 + treeSteps n)
+
+-- the search without a limit: it may take the steps of the whole tree, and no walk takes more
+unfoldable pub unlimited : Problem → ℕ → ℕ → List Row → List ℕ → Answer
+unfolding search treeSteps
+unlimited P S bound rows todo = search P S bound (treeSteps (length todo)) rows todo
+
+-- the steps that the search needs: those that it takes without a limit
+unfoldable pub stepsNeeded : Problem → ℕ → ℕ → List Row → List ℕ → ℕ
+unfolding unlimited
+stepsNeeded P S bound rows todo = unlimited P S bound rows todo .steps

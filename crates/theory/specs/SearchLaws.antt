@@ -16,12 +16,12 @@ use Rattle.theory.specs.Orders.{factorial, ordersOf, orders}
 use Rattle.theory.specs.OrdersLaws.{orders-length, orders-arrange, arrange-orders, earlier-listed-before}
 use Rattle.theory.specs.Earlier.{Earlier, NoRepeats}
 use Rattle.theory.specs.Walk.{Best, none-met, met, Course, going, at-bound, out-of-steps, Tally, walk}
-use Rattle.theory.specs.Search.{finished, nothing-fits, unfinished, unfinished-empty, Answer, fresh, outcomeOf, conclude, too-narrow, at-once, searchWalk, search}
-use Rattle.theory.specs.Tried.{Lead, leadOf, endsAt, leadBy, try, FirstLowest, Leads, unbeaten, taken, EndsAtBound, Walked}
+use Rattle.theory.specs.Search.{finished, nothing-fits, unfinished, unfinished-empty, Answer, fresh, outcomeOf, conclude, too-narrow, at-once, searchWalk, search, settled}
+use Rattle.theory.specs.inner.Tried.{Lead, leadOf, endsAt, leadBy, try, FirstLowest, Leads, unbeaten, taken, EndsAtBound, Walked}
 use Rattle.theory.specs.TriedLaws.{below-or-not, try-append, try-better, try-leads, leads-mark, leads-least}
 use Rattle.theory.specs.WalkLaws.{going-not-at-bound, going-not-out, at-bound-not-out, walk-walked, walked-leads}
 use Rattle.theory.specs.LimitLaws.{walk-same}
-use Rattle.theory.specs.Promises.{NoneBelow, Grounds, Shown, Finished, NothingFits, Stopped, Unfinished, UnfinishedEmpty, Promise, settled}
+use Rattle.theory.specs.inner.Promises.{NoneBelow, Grounds, Shown, Finished, NothingFits, Stopped, Unfinished, UnfinishedEmpty, Promise}
 
 -- a bound above S: nothing fits, and the walk is not begun
 pub search-too-narrow : (P : Problem) (S bound limit : ℕ) (rows : List Row) (todo : List ℕ) → S < bound →
@@ -565,11 +565,6 @@ search-bound P S bound limit rows todo =
     (λ (above : S < bound). subst carries (sym (search-too-narrow P S bound limit rows todo above)) refl)
     (λ (within : bound ≤ S). subst carries (sym (search-walks P S bound limit rows todo within)) (searchWalk-bound P S bound limit rows todo))
     (below-or-not S bound)
-
--- with nothing to place the search is finished at once
-pub searchWalk-none : (P : Problem) (S bound limit : ℕ) (rows : List Row) → searchWalk P S bound limit rows [] ≡ at-once P bound rows
-unfolding searchWalk
-searchWalk-none P S bound limit rows = refl
 
 -- with something to place the walk runs from its start, with S + 1 as the mark
 pub searchWalk-some : (P : Problem) (S bound limit : ℕ) (rows : List Row) (i : ℕ) (todo : List ℕ) →

@@ -7,7 +7,8 @@ use native.Mathlib.Omega.{arith}
 use Rattle.theory.specs.Problem.{Problem, Row, endOf, lowest, place, fill, top, placed, firstFit, Allowed, planEnd, startIn}
 use Rattle.theory.specs.Arrange.{Arrange}
 use Rattle.theory.specs.Earlier.{NoRepeats}
-use Rattle.theory.specs.ByStart.{NeverFalling, ByStart, AsLow}
+use Rattle.theory.specs.inner.AsLow.{NeverFalling, AsLow}
+use Rattle.theory.specs.ByStart.{ByStart}
 use Rattle.theory.specs.ApartLaws.{lowered-apart}
 use Rattle.theory.specs.ArrangeLaws.{arrange-mem, arrange-back, arrange-no-repeats, no-repeats-first, no-repeats-rest}
 use Rattle.theory.specs.ProblemLaws.{end-rises, lowest-least, place-with, fill-nil, fill-cons, start-first, planEnd-nil, planEnd-cons, planEnd-place}

@@ -11,7 +11,7 @@ use Rattle.theory.specs.Problem.{Problem, Row, place, fill, top}
 use Rattle.theory.specs.TestLaws.{by-test}
 use Rattle.theory.specs.ProblemLaws.{top-fill}
 use Rattle.theory.specs.Walk.{met}
-use Rattle.theory.specs.Tried.{Lead, endsAt, leadBy, try, Leads, unbeaten, taken}
+use Rattle.theory.specs.inner.Tried.{Lead, endsAt, leadBy, try, Leads, unbeaten, taken}
 
 -- a number is below another or not
 pub below-or-not : (a b : ℕ) → (a < b) ⊎ (b ≤ a)
@@ -26,11 +26,6 @@ module _ (P : Problem) where
   pub ends-above-rows : (rows : List Row) (order : List ℕ) → top P rows ≤ endsAt P rows order
   unfolding endsAt
   ends-above-rows rows order = top-fill P rows order
-
-  -- an order that begins with i ends where the rest of it ends once i is placed
-  pub endsAt-place : (rows : List Row) (i : ℕ) (order : List ℕ) → endsAt P rows (i ∷ order) ≡ endsAt P (place P rows i) order
-  unfolding endsAt fill
-  endsAt-place rows i order = refl
 
   -- an order below the mark takes the lead
   pub try-better : (rows : List Row) (path o : List ℕ) (os : List (List ℕ)) (l : Lead) → endsAt P rows o < l .mark →

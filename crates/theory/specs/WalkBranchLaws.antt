@@ -86,12 +86,6 @@ module _ (P : Problem) (limit bound : ℕ) where
   unfolding siblings
   siblings-stop deeper n rows path before i after t h = rw h
 
-  -- below a complete order there is only that order
-  pub walk-complete : (rows : List Row) (path left : List ℕ) (t : Tally) →
-      walk P limit bound zero rows path left t ≡ complete P limit bound rows path t
-  unfolding walk
-  walk-complete rows path left t = refl
-
   -- below any other stand the demands not yet placed, tried one after the other
   pub walk-siblings : (n : ℕ) (rows : List Row) (path left : List ℕ) (t : Tally) →
       walk P limit bound (suc n) rows path left t ≡ siblings P limit bound (walk P limit bound n) n rows path [] left t

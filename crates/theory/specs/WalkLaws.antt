@@ -1,5 +1,5 @@
 -- The walk takes in a first part of all orders, counts each of them, and keeps the first of the lowest.
-use Prim.Native.Nat.{ℕ, zero, suc, _+_, _*_, _≤_, _<_, max}
+use Prim.Native.Nat.{ℕ, zero, suc, _+_, _≤_, _<_, max}
 use mathlib.Core.Bool.{true, false}
 use mathlib.Core.List.{List, [], _∷_, _++_, map, cons≢nil, append-assoc, append-nil, map-append}
 use mathlib.Core.Logic.{_⊎_, inl, inr, ⊎-elim, _≢_}
@@ -8,10 +8,10 @@ use native.Mathlib.Omega.{arith}
 use lib.ListN.{length, length-append, length-map}
 use Rattle.theory.specs.Problem.{Problem, Row, place, fill, top}
 use Rattle.theory.specs.Orders.{factorial, spread, ordersOf}
-use Rattle.theory.specs.OrdersLaws.{factorial-pos, ordersOf-length, spread-ordersOf-length}
+use Rattle.theory.specs.OrdersLaws.{factorial-pos, ordersOf-length}
 use Rattle.theory.specs.Walk.{met, Course, going, at-bound, out-of-steps, Tally, stepped, leave, exhausted, equalled, improved, goes-on, complete, judge, step, siblings, walk}
 use Rattle.theory.specs.WalkBranchLaws.{complete-at-bound, complete-above-bound, complete-equalled, judge-left, judge-deeper, step-spent, step-taken, siblings-none, siblings-on, siblings-stop}
-use Rattle.theory.specs.Tried.{Lead, leadOf, endsAt, leadBy, try, Leads, Walked}
+use Rattle.theory.specs.inner.Tried.{Lead, leadOf, endsAt, leadBy, try, Leads, Walked}
 use Rattle.theory.specs.TriedLaws.{below-or-not, equal-or-not, ends-above-rows, try-append, try-map, try-none, try-better, try-equalled, try-leads, leads-mark}
 
 -- a walk that goes on has not met the bound
@@ -426,14 +426,6 @@ module _ (P : Problem) (limit bound : ℕ) where
   unfolding Walks
   judge-walked n rows path left t on sized = walked-judge (walk P limit bound n) n (walk-walked n) rows path left t on sized
 
-  -- a step of the walk takes in a first part of the orders that begin with its demand
-  pub step-walked : (n : ℕ) (rows : List Row) (path : List ℕ) (i : ℕ) (left : List ℕ) (t : Tally) → t .course ≡ going →
-      length left ≡ n →
-      Walked P limit bound rows path (map (λ (o : List ℕ). i ∷ o) (ordersOf n left)) t
-      (step P limit bound (walk P limit bound n) n rows path i left t)
-  unfolding Walks
-  step-walked n rows path i left t on sized = walked-step (walk P limit bound n) n (walk-walked n) rows path i left t on sized
-
   -- the siblings of the walk take in a first part of the orders that begin with one of them
   pub siblings-walked : (n : ℕ) (rows : List Row) (path before after : List ℕ) (t : Tally) → t .course ≡ going →
       length before + length after ≡ suc n →
@@ -477,51 +469,6 @@ module _ (P : Problem) (limit bound : ℕ) where
         walked-counts rows path (ordersOf n left) t (walk P limit bound n rows path left t) (walk-walked n rows path left t on sized),
         ordersOf-length n left sized,
       )
-
-  -- a step of the walk with n demands left after it counts n! orders at the most
-  pub step-counts : (n : ℕ) (rows : List Row) (path : List ℕ) (i : ℕ) (left : List ℕ) (t : Tally) → t .course ≡ going →
-      length left ≡ n →
-      step P limit bound (walk P limit bound n) n rows path i left t .reached
-      + step P limit bound (walk P limit bound n) n rows path i left t .ruled
-      ≤ t .reached + t .ruled + factorial n
-  step-counts n rows path i left t on sized =
-      let front : List (List ℕ) = map (λ (o : List ℕ). i ∷ o) (ordersOf n left) in
-      omega (
-        arith,
-        walked-counts
-            rows
-            path
-            front
-            t
-            (step P limit bound (walk P limit bound n) n rows path i left t)
-            (step-walked n rows path i left t on sized),
-        length-map (ordersOf n left) (λ (o : List ℕ). i ∷ o),
-        ordersOf-length n left sized,
-      )
-
-  -- the siblings of the walk count n! orders at the most for each of them
-  pub siblings-counts : (n : ℕ) (rows : List Row) (path before after : List ℕ) (t : Tally) → t .course ≡ going →
-      length before + length after ≡ suc n →
-      siblings P limit bound (walk P limit bound n) n rows path before after t .reached
-      + siblings P limit bound (walk P limit bound n) n rows path before after t .ruled
-      ≤ t .reached + t .ruled + length after * factorial n
-  siblings-counts n rows path before after t on sized =
-      omega (
-        arith,
-        walked-counts
-            rows
-            path
-            (spread (ordersOf n) before after)
-            t
-            (siblings P limit bound (walk P limit bound n) n rows path before after t)
-            (siblings-walked n rows path before after t on sized),
-        spread-ordersOf-length n before after sized,
-      )
-
-  -- the walk only takes more steps
-  pub walk-steps-rise : (n : ℕ) (rows : List Row) (path left : List ℕ) (t : Tally) → t .course ≡ going → length left ≡ n →
-      t .steps ≤ walk P limit bound n rows path left t .steps
-  walk-steps-rise n rows path left t on sized = walk-walked n rows path left t on sized .steps-rise
 
   -- the walk takes no step past the limit
   pub walk-steps-held : (n : ℕ) (rows : List Row) (path left : List ℕ) (t : Tally) → t .course ≡ going → length left ≡ n →

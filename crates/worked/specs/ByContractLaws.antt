@@ -1,19 +1,17 @@
 -- The lines of the table are the answers of the public calls.
-use Prim.Native.Nat.{ℕ}
 use mathlib.Core.List.{List, [], _∷_, map, List·Memᴰ, List·Memᴰ·not-nil, List·Memᴰ·cases-cons}
 use mathlib.Core.Logic.{⊎-elim}
-use mathlib.Core.Path.{_≡_, refl, sym, ap, ap₂, subst, _∙_}
+use mathlib.Core.Path.{_≡_, refl, sym, ap, subst, _∙_}
 use lib.ListN.{getD, drop}
 use Rattle.request.specs.declared.Checked.{Checked}
 use Rattle.request.specs.declared.Checked.the-variants as checked
-use Rattle.request.specs.declared.Reading.{Reading}
+use Rattle.reading.specs.declared.Reading.{Reading}
 use Rattle.request.specs.View.{View, view}
-use Rattle.request.specs.Reading.{FileReading, refused, accepted, readFile}
-use Rattle.request.specs.Packing.{packReading}
-use Rattle.request.specs.RoundTrip.{Bytes}
-use Rattle.request.specs.RoundTripLaws.{read-seen}
-use Rattle.worked.specs.Calls.{Call, Said, say, sayRead, first-fit, bound, search, check-starts, to-frequency, from-frequency, read-request}
-use Rattle.worked.specs.ByContract.{sayVerdict, Gives}
+use Rattle.reading.specs.Reading.{FileReading, refused, accepted, readFile}
+use Rattle.reading.specs.FilePacking.{packReading}
+use Rattle.writing.specs.RoundTripLaws.{read-seen}
+use Rattle.worked.specs.Calls.{Call, Said, say, sayRead, sayVerdict, first-fit, bound, search, check-starts, to-frequency, from-frequency, read-request}
+use Rattle.worked.specs.ByContract.{Gives}
 use Rattle.worked.specs.Table.{Case, table}
 use Rattle.worked.specs.Worked.{worked}
 

@@ -1,10 +1,10 @@
 -- The requests of the worked set.
 use Prim.Native.Nat.{ℕ}
 use mathlib.Core.List.{List, [], _∷_}
-use lib.IntN.{ℤ, pos, negsuc}
+use lib.IntN.{negsuc}
 use Rattle.grid.specs.declared.Band.{Band}
 use Rattle.request.specs.declared.Link.{Link}
-use Rattle.request.specs.View.{DemandView, View}
+use Rattle.request.specs.View.{View}
 
 -- a band with the lower edge -284
 abbrev pub bandOf : ℕ → ℕ → Band

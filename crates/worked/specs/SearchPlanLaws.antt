@@ -1,32 +1,32 @@
 -- The search's plans are accepted by the check of starts, with the end that the search answers.
-use Prim.Native.Nat.{ℕ, _≤_}
+use Prim.Native.Nat.{ℕ}
 use mathlib.Core.List.{List, [], _++_}
-use mathlib.Core.Path.{_≡_, refl, sym, ap, subst, _∙_}
+use mathlib.Core.Path.{_≡_, sym, ap, subst, _∙_}
 use native.Mathlib.Omega.{arith}
 use lib.ListN.{length, take, drop, length-append, take-append-drop}
 use Rattle.theory.specs.Problem.{startIn, fill}
 use Rattle.request.specs.declared.Request.{Request}
-use Rattle.request.specs.declared.Checked.{Checked}
 use Rattle.request.specs.declared.Checked.the-variants.{Sound}
-use Rattle.request.specs.View.{View, view}
+use Rattle.request.specs.View.{view}
 use Rattle.request.specs.Check.{check}
 use Rattle.request.specs.Whole.{Whole}
 use Rattle.request.specs.LimitsLaws.{checked-limits}
 use Rattle.request.specs.SoundLaws.{check-sound, whole-counted}
-use Rattle.placing.specs.Placing.{problemOf}
+use Rattle.request.specs.Sharing.{problemOf}
 use Rattle.search.specs.declared.Outcome.{Outcome}
 use Rattle.search.specs.declared.Outcome.the-variants.{Finished, Unfinished}
 use Rattle.search.specs.declared.Answer.{Answer}
 use Rattle.search.specs.declared.SearchReply.the-variants.{Answered}
-use Rattle.search.specs.Reply.{searched, checkSearch, startsOf, searchReply, startsAfter, orderAfter}
+use Rattle.search.specs.Reply.{searched, checkSearch, searchReply, startsAfter, orderAfter}
+use Rattle.meeting.specs.Plan.{startsOf}
 use Rattle.search.specs.ReplyLaws.{passed-searchable}
-use Rattle.search.specs.Demand3.{PlanShown, Promised, AnswerKept}
+use Rattle.search.specs.Demand3.{PlanShown, Promised}
 use Rattle.search.specs.Demand3Laws.{answer-given, demand3}
 use Rattle.plan.specs.declared.CheckReply.the-variants.{Accepted}
 use Rattle.plan.specs.CheckStarts.{startsReply}
 use Rattle.plan.specs.AcceptableLaws.{allowed-accepted}
-use Rattle.plan.specs.AlikeLaws.{longer-alike, reply-alike}
-use Rattle.plan.specs.PlanPackingLaws.{made-length}
+use Rattle.planfile.specs.AlikeLaws.{longer-alike, reply-alike}
+use Rattle.planfile.specs.PlanPackingLaws.{made-length}
 
 -- the plan shown is accepted with its end, whatever stands behind it
 shown-accepted : (r : Request) → Whole r → check (view r) ≡ Sound → (e : ℕ) (shown order rest : List ℕ) → PlanShown (view r) e shown order →

@@ -2,9 +2,8 @@
 use Prim.Native.Nat.{ℕ}
 use mathlib.Core.List.{List, [], _∷_}
 use lib.IntN.{pos, negsuc}
-use Rattle.search.specs.declared.Outcome.the-variants.{Finished, NothingFits, Unfinished, UnfinishedEmpty}
 use Rattle.worked.specs.Requests.{bandOf, R, T, twoOnOneLink, fileR}
-use Rattle.worked.specs.Calls.{Call, first-fit, bound, search, check-starts, to-frequency, from-frequency, read-request, Said, refuses, places, needs, finds, accepts, centres, names, reads}
+use Rattle.worked.specs.Calls.{Call, first-fit, bound, search, check-starts, to-frequency, from-frequency, read-request, Said, says, says±, reads}
 
 -- a call and its answer
 pub record Case : Type 0 where
@@ -16,42 +15,53 @@ abbrev pub _gives_ : Call → Said → Case
 call gives said = record { call = call; said = said }
 
 infix 20 _gives_
--- all lines, c1 to c12
+-- a line of values alone
+abbrev pub _answers_ : Call → List ℕ → Case
+call answers values = call gives says (0, values) []
+
+infix 20 _answers_
+-- a line of a refusal: its number and its place
+abbrev pub _refuses_at_ : Call → ℕ → ℕ → Case
+call refuses number at place = call gives says (number, place ∷ []) []
+
+infix 20 _refuses_at_
+-- all lines, c1 to c12. Of a search the values are the outcome's number (1 finished, 2 nothing fits, 3 unfinished), the end, the bound, the
+-- steps, the orders reached and ruled out; of a block's frequency n, m and MHz; of a block its start and its width.
 abbrev pub table : List Case
 table =
     -- c1: R in listing order
-    (first-fit (R 384 0) (0 ∷ 1 ∷ 2 ∷ []) gives places 6 (0 ∷ 2 ∷ 3 ∷ 7 ∷ []))
-    ∷ (bound (R 384 0) gives needs 4)
+    (first-fit (R 384 0) (0 ∷ 1 ∷ 2 ∷ []) gives says (0, 6 ∷ []) ((0 ∷ 2 ∷ 3 ∷ 7 ∷ []) ∷ []))
+    ∷ (bound (R 384 0) answers (4 ∷ []))
     -- c2: R searched, limit 5
-    ∷ (search (R 384 0) 5 gives finds (Finished 4) 4 5 2 0 (0 ∷ 3 ∷ 0 ∷ 7 ∷ []) (0 ∷ 2 ∷ 1 ∷ 7 ∷ []))
+    ∷ (search (R 384 0) 5 gives says (0, 1 ∷ 4 ∷ 4 ∷ 5 ∷ 2 ∷ 0 ∷ []) ((0 ∷ 3 ∷ 0 ∷ 7 ∷ []) ∷ (0 ∷ 2 ∷ 1 ∷ 7 ∷ []) ∷ []))
     -- c3: one step less
-    ∷ (search (R 384 0) 4 gives finds (Unfinished 6) 4 4 1 0 (0 ∷ 2 ∷ 3 ∷ 7 ∷ []) (0 ∷ 1 ∷ 2 ∷ 7 ∷ []))
+    ∷ (search (R 384 0) 4 gives says (0, 3 ∷ 6 ∷ 4 ∷ 4 ∷ 1 ∷ 0 ∷ []) ((0 ∷ 2 ∷ 3 ∷ 7 ∷ []) ∷ (0 ∷ 1 ∷ 2 ∷ 7 ∷ []) ∷ []))
     -- c4: R in a band of 3 slots
-    ∷ (search (R 3 0) 1000000 gives finds NothingFits 4 0 0 6 (7 ∷ 7 ∷ 7 ∷ 7 ∷ []) (7 ∷ 7 ∷ 7 ∷ 7 ∷ []))
+    ∷ (search (R 3 0) 1000000 gives says (0, 2 ∷ 0 ∷ 4 ∷ 0 ∷ 0 ∷ 6 ∷ []) ((7 ∷ 7 ∷ 7 ∷ 7 ∷ []) ∷ (7 ∷ 7 ∷ 7 ∷ 7 ∷ []) ∷ []))
     -- c5: R with guard 1
-    ∷ (bound (R 384 1) gives needs 5)
-    ∷ (first-fit (R 384 1) (0 ∷ 1 ∷ 2 ∷ []) gives places 8 (0 ∷ 3 ∷ 5 ∷ 7 ∷ []))
-    ∷ (search (R 384 1) 1000000 gives finds (Finished 5) 5 5 2 0 (0 ∷ 4 ∷ 0 ∷ 7 ∷ []) (0 ∷ 2 ∷ 1 ∷ 7 ∷ []))
+    ∷ (bound (R 384 1) answers (5 ∷ []))
+    ∷ (first-fit (R 384 1) (0 ∷ 1 ∷ 2 ∷ []) gives says (0, 8 ∷ []) ((0 ∷ 3 ∷ 5 ∷ 7 ∷ []) ∷ []))
+    ∷ (search (R 384 1) 1000000 gives says (0, 1 ∷ 5 ∷ 5 ∷ 5 ∷ 2 ∷ 0 ∷ []) ((0 ∷ 4 ∷ 0 ∷ 7 ∷ []) ∷ (0 ∷ 2 ∷ 1 ∷ 7 ∷ []) ∷ []))
     -- c6: T, whose bound cannot be reached
-    ∷ (bound (T 384) gives needs 2)
-    ∷ (search (T 384) 15 gives finds (Finished 3) 2 15 6 0 (0 ∷ 1 ∷ 2 ∷ 7 ∷ []) (0 ∷ 1 ∷ 2 ∷ 7 ∷ []))
-    ∷ (search (T 384) 14 gives finds (Unfinished 3) 2 14 5 0 (0 ∷ 1 ∷ 2 ∷ 7 ∷ []) (0 ∷ 1 ∷ 2 ∷ 7 ∷ []))
+    ∷ (bound (T 384) answers (2 ∷ []))
+    ∷ (search (T 384) 15 gives says (0, 1 ∷ 3 ∷ 2 ∷ 15 ∷ 6 ∷ 0 ∷ []) ((0 ∷ 1 ∷ 2 ∷ 7 ∷ []) ∷ (0 ∷ 1 ∷ 2 ∷ 7 ∷ []) ∷ []))
+    ∷ (search (T 384) 14 gives says (0, 3 ∷ 3 ∷ 2 ∷ 14 ∷ 5 ∷ 0 ∷ []) ((0 ∷ 1 ∷ 2 ∷ 7 ∷ []) ∷ (0 ∷ 1 ∷ 2 ∷ 7 ∷ []) ∷ []))
     -- c7: T in a band of 2 slots
-    ∷ (search (T 2) 1000000 gives finds NothingFits 2 15 6 0 (7 ∷ 7 ∷ 7 ∷ 7 ∷ []) (7 ∷ 7 ∷ 7 ∷ 7 ∷ []))
+    ∷ (search (T 2) 1000000 gives says (0, 2 ∷ 0 ∷ 2 ∷ 15 ∷ 6 ∷ 0 ∷ []) ((7 ∷ 7 ∷ 7 ∷ 7 ∷ []) ∷ (7 ∷ 7 ∷ 7 ∷ 7 ∷ []) ∷ []))
     -- c8: R's last demand put on its second
-    ∷ (check-starts (R 384 0) (0 ∷ 2 ∷ 2 ∷ []) gives refuses 18 2)
+    ∷ (check-starts (R 384 0) (0 ∷ 2 ∷ 2 ∷ []) refuses 18 at 2)
     -- c9: guard 1, width 2 at slot 0: start 2 clashes, start 3 does not
-    ∷ (check-starts twoOnOneLink (0 ∷ 2 ∷ []) gives refuses 18 1)
-    ∷ (check-starts twoOnOneLink (0 ∷ 3 ∷ []) gives accepts 7)
+    ∷ (check-starts twoOnOneLink (0 ∷ 2 ∷ []) refuses 18 at 1)
+    ∷ (check-starts twoOnOneLink (0 ∷ 3 ∷ []) answers (7 ∷ []))
     -- c10: blocks and their grid numbers
-    ∷ (to-frequency (bandOf 384 0) 0 2 gives centres (negsuc 281) 2 (pos 191337500))
-    ∷ (to-frequency (bandOf 384 0) 141 2 gives centres (pos 0) 2 (pos 193100000))
-    ∷ (to-frequency (bandOf 384 0) 383 1 gives centres (pos 483) 1 (pos 196118750))
+    ∷ (to-frequency (bandOf 384 0) 0 2 gives says± (0, negsuc 281 ∷ pos 2 ∷ pos 191337500 ∷ []))
+    ∷ (to-frequency (bandOf 384 0) 141 2 gives says± (0, pos 0 ∷ pos 2 ∷ pos 193100000 ∷ []))
+    ∷ (to-frequency (bandOf 384 0) 383 1 gives says± (0, pos 483 ∷ pos 1 ∷ pos 196118750 ∷ []))
     -- c11: and back
-    ∷ (from-frequency (bandOf 384 0) (negsuc 281) 2 gives names 0 2)
-    ∷ (from-frequency (bandOf 384 0) (negsuc 282) 2 gives refuses 19 0)
-    ∷ (from-frequency (bandOf 384 0) (negsuc 280) 2 gives refuses 19 0)
+    ∷ (from-frequency (bandOf 384 0) (negsuc 281) 2 answers (0 ∷ 2 ∷ []))
+    ∷ (from-frequency (bandOf 384 0) (negsuc 282) 2 refuses 19 at 0)
+    ∷ (from-frequency (bandOf 384 0) (negsuc 280) 2 refuses 19 at 0)
     -- c12: the empty file; and R's own file, read and written again
-    ∷ (read-request [] gives refuses 2 0)
+    ∷ (read-request [] refuses 2 at 0)
     ∷ (read-request fileR gives reads (R 384 0) fileR)
     ∷ []

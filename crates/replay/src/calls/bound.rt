@@ -1,14 +1,14 @@
 // 04: raw. The bound of a request.
 use crate::raw::raw_at;
 use crate::say;
-use placing::BoundReply;
+use meeting::BoundReply;
 
 pub(crate) fn answer(body: &[u8]) -> bool {
     let raw = raw_at(body, 0);
     if raw.end != body.len() {
         return false;
     }
-    let reply = placing::bound(raw.request);
+    let reply = meeting::bound(raw.request);
     match reply {
         BoundReply::Bound(bound) => {
             say::words(b"bound");

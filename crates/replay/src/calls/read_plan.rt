@@ -28,7 +28,7 @@ pub(crate) fn answer(body: &[u8]) -> bool {
 }
 
 fn read(request: Request, file: &[u8], starts: &mut [u16]) {
-    let reply = plan::read_plan(request, file, starts);
+    let reply = planfile::read_plan(request, file, starts);
     say::checked(b"read", reply);
     say::entries(starts);
     say::end();

@@ -7,7 +7,7 @@ use request::Request;
 use request::Written;
 
 pub(crate) fn answer(body: &[u8]) -> bool {
-    let reading = request::read_request(body);
+    let reading = reading::read_request(body);
     let verdict = reading.verdict;
     match verdict {
         Checked::Sound => show(reading.request),
@@ -19,7 +19,7 @@ pub(crate) fn answer(body: &[u8]) -> bool {
 
 fn show(request: Request) {
     let mut out = lent_bytes();
-    let written = request::write_request(request, &mut out);
+    let written = writing::write_request(request, &mut out);
     match written {
         Written::Wrote(count) => {
             let count = held_bytes(count, &out);

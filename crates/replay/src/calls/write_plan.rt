@@ -31,7 +31,7 @@ pub(crate) fn answer(body: &[u8]) -> bool {
 
 fn write(body: &[u8], request: Request, starts: &mut [u16], out: &mut [u8]) {
     read_entries(body, 4, starts);
-    let written = plan::write_plan(request, starts, out);
+    let written = planfile::write_plan(request, starts, out);
     say::written(written);
     say::bytes(out);
     say::end();

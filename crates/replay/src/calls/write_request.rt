@@ -23,7 +23,7 @@ pub(crate) fn answer(body: &[u8]) -> bool {
 }
 
 fn write(request: Request, out: &mut [u8]) {
-    let written = request::write_request(request, out);
+    let written = writing::write_request(request, out);
     say::written(written);
     say::bytes(out);
     say::end();

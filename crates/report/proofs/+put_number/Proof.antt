@@ -1,13 +1,11 @@
 use Rattle.report.specs.declared.Page.{Page}
-use mathlib.Core.List.{[], _∷_, _++_}
-use mathlib.Core.Path.{_≡_, ap, ap₂, sym, _∙_}
-use Prim.Native.Nat.{_+_, _/_, _%_}
+use mathlib.Core.List.{[], _∷_}
+use mathlib.Core.Path.{ap, sym, _∙_}
+use Prim.Native.Nat.{_+_, _/_, _%_, ℕ, _<_}
 use native.Mathlib.Omega.{arith}
 use borrow.Author.Needs.{needs}
-use lib.ListN.{length, length-append}
 use Rattle.report.specs.Text.{decimal, appended}
 use Rattle.report.specs.TextLaws.{decimal-small, decimal-large, decimal-small-length, decimal-large-length, appended-twice}
-use Prim.Native.Nat.{ℕ, _<_}
 use borrow.Fn.Kinds.{In}
 use borrow.Fn.PlainCycle.{Measures, is, falls, and}
 use Rattle.report.proofs.put_number.Reads as put-number

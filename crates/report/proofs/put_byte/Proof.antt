@@ -1,3 +1,4 @@
+-- `report::put_byte` meets its contract. Assumes nothing.
 use mathlib.Core.Path.{refl}
 use Rattle.report.specs.Text.{appended}
 use borrow.Author.Needs.{needs}

@@ -1,7 +1,5 @@
 -- `report::refused_page` meets its contract. Assumes nothing.
-use mathlib.Core.Path.{ap, _∙_}
 use borrow.Author.Needs.{needs}
-use Rattle.report.specs.Text.{pageOf}
 use Rattle.report.specs.Report.{refusalText}
 use Rattle.report.proofs.refused_page.Statement.{statement}
 use Rattle.report.proofs.refused_page.Tie as tie

@@ -11,11 +11,11 @@ use lib.Arith.{lt-of-le-ne}
 use lib.ListN.{getD, set, length-set}
 use Rattle.theory.specs.Orders as orders
 use Rattle.theory.specs.Problem as problem
-use Rattle.search.specs.Arrays.{problemOf, rowsOf, tallyOf}
-use Rattle.search.specs.Kept.{Ready}
+use Rattle.search.specs.inner.Arrays.{problemOf, rowsOf, tallyOf}
+use Rattle.search.specs.inner.Kept.{Ready}
 use Rattle.search.specs.DownLaws.{brought-mendable, brought-small, down-ready, down-rows, gone-tried}
 use Rattle.search.specs.StepLaws.{counting-tried, counting-here, counting-one, counting-more, counting-below, counting-left, counting-gone, small-start, step-end, ends-spent, ends-last, ends-left, ends-into, ends-ended}
-use Rattle.search.specs.Tries.{Counting}
+use Rattle.search.specs.inner.Tries.{Counting}
 use Rattle.search.specs.TriesLaws.{tried-none}
 use Rattle.search.proofs.bring.Reads as bring-reads
 use Rattle.search.proofs.complete.Reads as complete-reads

@@ -1,8 +1,8 @@
--- `bring` meets its contract: each turn moves one entry back, and the last store brings the entry to its place.
+-- `search::bring` meets its contract: each turn moves one entry back, and the last store brings the entry to its place.
 use Prim.Native.Nat.{ℕ, _-_, _≤_}
 use mathlib.Core.Path.{_≡_, subst}
 use native.Mathlib.Omega.{arith}
-use Rattle.search.specs.Kept.{Shifted}
+use Rattle.search.specs.inner.Kept.{Shifted}
 use Rattle.search.specs.BringLaws.{shifted-none, shifted-next, shifted-brought}
 use Rattle.search.proofs.bring.Statement.{statement}
 use Rattle.search.proofs.bring.Tie as tie

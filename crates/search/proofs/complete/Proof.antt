@@ -1,8 +1,8 @@
--- `complete` meets its contract: what it stores into the cells, case by case.
+-- `search::complete` meets its contract: what it stores into the cells, case by case.
 use Prim.Native.Nat.{ℕ, _+_}
 use mathlib.Core.Path.{_∙_}
 use lib.ListN.{getD, set, length-set}
-use Rattle.search.specs.Arrays.{entries, rowsOf}
+use Rattle.search.specs.inner.Arrays.{entries, rowsOf}
 use Rattle.search.specs.TallyLaws.{cells-reached, cells-better, cells-bound, bettered-size}
 use borrow.Author.Needs.{needs}
 use Rattle.search.proofs.complete.Statement.{statement}

@@ -1,8 +1,9 @@
+-- `search::look` meets its contract. Assumes nothing.
 use Prim.Native.Nat.{ℕ, _≤_, _-_}
 use mathlib.Core.Path.{_≡_, sym, subst, _∙_}
 use native.Mathlib.Omega.{arith}
 use borrow.Author.Needs.{needs}
-use Rattle.search.specs.Scan.{lookPast}
+use Rattle.search.specs.inner.Scan.{lookPast}
 use Rattle.search.specs.ScanLaws.{look-none, look-more}
 use Rattle.search.proofs.look.Statement.{statement}
 use Rattle.search.proofs.look.Tie as tie

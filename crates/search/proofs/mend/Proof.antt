@@ -1,9 +1,9 @@
--- `mend` meets its contract: each turn mends the demand at place `p`, and leaves all others.
+-- `search::mend` meets its contract: each turn mends the demand at place `p`, and leaves all others.
 use Prim.Native.Nat.{ℕ, _-_, _≤_, _<_}
 use mathlib.Core.Path.{_≡_, subst}
 use native.Mathlib.Omega.{arith}
 use lib.ListN.{getD}
-use Rattle.search.specs.Kept.{Mended}
+use Rattle.search.specs.inner.Kept.{Mended}
 use Rattle.search.specs.KeptLaws.{mended-none, mended-mendable, mended-next}
 use Rattle.search.proofs.mend.Statement.{statement}
 use Rattle.search.proofs.mend.Tie as tie

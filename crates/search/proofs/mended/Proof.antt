@@ -1,4 +1,4 @@
--- `mended` meets its contract: apart from the demand just put down the start stays, else the scan finds the next one.
+-- `search::mended` meets its contract: apart from the demand just put down the start stays, else the scan finds the next one.
 use Prim.Native.Nat.{ℕ, _+_, _≤_, _<_}
 use native.Mathlib.Omega.{arith}
 use borrow.Author.Tests.{not-true, not-false}

@@ -1,4 +1,4 @@
--- `scan` meets its contract: no clear start is passed by, and a look that stays has found one. No look goes above 392, so each
+-- `search::scan` meets its contract: no clear start is passed by, and a look that stays has found one. No look goes above 392, so each
 -- brings the rest up to there down.
 use Prim.Native.Nat.{ℕ, _+_, _-_, _≤_, _<_}
 use mathlib.Core.List.{List}
@@ -6,7 +6,7 @@ use mathlib.Core.Bool.{Bool}
 use mathlib.Core.Path.{_≡_, sym, subst, _∙_}
 use native.Mathlib.Omega.{arith}
 use lib.ListN.{getD}
-use Rattle.search.specs.Scan.{lookPast, Unpassed}
+use Rattle.search.specs.inner.Scan.{lookPast, Unpassed}
 use Rattle.search.specs.ScanLaws.{look-rises, look-held, look-unpassed, look-found}
 use Rattle.search.proofs.scan.Statement.{statement}
 use Rattle.search.proofs.scan.Tie as tie

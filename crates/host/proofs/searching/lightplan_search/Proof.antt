@@ -1,25 +1,18 @@
 -- `host::searching::lightplan_search` meets its contract. Assumes nothing.
-use Prim.Native.Nat.{ℕ}
 use mathlib.Core.Path.{_≡_, sym, ap, _∙_}
-use native.Mathlib.Omega.{arith}
 use lib.ListN.{length}
 use borrow.Author.Needs.{needs}
-use Rattle.request.specs.Reading.{FileReading, refused, readFile}
-use Rattle.request.specs.RoundTrip.{Bytes}
-use Rattle.host.specs.Held.{Held}
+use Rattle.request.specs.View.{view}
+use Rattle.reading.specs.Reading.{FileReading, refused, accepted, readFile}
 use Rattle.host.specs.Host.{searchTold, answerEntry, startsSearched, orderSearched}
-use Rattle.host.specs.HostLaws.{file-refused, file-held}
+use Rattle.host.specs.HostLaws.{file-refused, file-accepted, bytes-known}
 use Rattle.host.proofs.searching.lightplan_search.Statement.{statement}
 use Rattle.host.proofs.searching.lightplan_search.Tie as tie
 
--- the file is of bytes
-bytes : (c : tie.After-shared-slice-known) → Bytes (c .before .args .file .now)
-bytes c = record { each = λ (at : ℕ). omega (arith, c .shared-slice-known .given at) }
-
--- where the reading is sound, the file holds the request read
-held : (c : tie.After-enum-told) → Held (c .before .before .before .before .before .before .before .args .file .now) (c .before .before .before .read-request .result .request)
-held c =
-    file-held (c .before .before .before .before .before .before .before .args .file .now) (c .before .before .before .read-request .result) (bytes (c .before .before .before .before .before .before)) (c .before .before .before .read-request .ensures) (c .enum-told .given .1)
+-- where the reading is sound, the file is accepted as the request read
+request-read : (c : tie.After-enum-told) → readFile (c .before .before .before .before .before .before .before .args .file .now) ≡ accepted (view (c .before .before .before .read-request .result .request))
+request-read c =
+    file-accepted (c .before .before .before .before .before .before .before .args .file .now) (c .before .before .before .read-request .result) (bytes-known _ (c .before .before .before .before .before .before .shared-slice-known .given)) (c .before .before .before .read-request .ensures) (c .enum-told .given .1)
 
 -- where it is refused, so is the file
 no-request : (c : tie.After-known-told) → readFile (c .before .before .before .before .before .before .before .before .args .file .now) ≡ refused (c .before .verdict .given .0 .0)
@@ -67,7 +60,7 @@ unfolding answerEntry startsSearched orderSearched
 returns-2 c =
     let a = c .before .before .before .before .before .before .before .before .before .before .before .before .before .before .before .args in
     let searched = c .before .before .before .before .before .search in
-    let read = sym (held (c .before .before .before .before .before .before .before .before) .read) in (
+    let read = sym (request-read (c .before .before .before .before .before .before .before .before)) in (
       c .search-told .ensures ∙ (ap searchTold (searched .ensures .0)
           ∙ ap (λ (file : FileReading). answerEntry file (a .limit) (length (a .starts .now)) (length (a .order .now))) read),
       (

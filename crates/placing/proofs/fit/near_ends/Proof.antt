@@ -1,11 +1,11 @@
+-- `placing::fit::near_ends` meets its contract. Assumes nothing.
 use Prim.Native.Nat.{ℕ, _≤_, _-_}
 use mathlib.Core.Bool.{false, cond}
-use mathlib.Core.Path.{_≡_, refl, sym, ap, subst, _∙_}
 use native.Mathlib.Omega.{arith}
 use borrow.Author.Needs.{needs}
-use lib.ListN.{length, getD}
-use Rattle.placing.specs.Filling.{FilledTo}
-use Rattle.placing.specs.FillingLaws.{filled-none, filled-more, filled-entry}
+use lib.ListN.{getD}
+use Rattle.meeting.specs.inner.Filling.{FilledTo}
+use Rattle.meeting.specs.FillingLaws.{filled-none, filled-more, filled-entry}
 use Rattle.placing.proofs.fit.near_ends.Statement.{statement}
 use Rattle.placing.proofs.fit.near_ends.Tie as tie
 use Rattle.placing.proofs.fit.near_ends.Reads as reads
@@ -19,7 +19,6 @@ Inv-loop row order high placed near₀ m₀ near m =
 abbrev μ-loop : tie.MeasureT-loop
 μ-loop row order high placed near₀ m₀ near m = placed - m
 
--- src/fit.rt:20:5
 loop-holds : tie.Need-loop-holds Inv-loop μ-loop
 loop-holds c =
     let a = c .before .args in (
@@ -27,51 +26,39 @@ loop-holds c =
       filled-none ℕ (λ (k : ℕ). cond (getD (a .row .now) (getD (a .order .now) k 0) false) (getD (a .high .now) k 0) 0) 0 200,
     )
 
--- src/fit.rt:21:21
 mul-other : tie.Need-mul-other Inv-loop μ-loop
 mul-other c = omega (arith, c .before .before .before .pre .few)
 
--- src/fit.rt:21:21
 shared-slice-read-other : tie.Need-shared-slice-read-other Inv-loop μ-loop
 shared-slice-read-other c = omega (arith, c .before .before .before .before .pre .so-many)
 
--- src/fit.rt:21:21
 cast-other : tie.Need-cast-other Inv-loop μ-loop
 cast-other c = omega (arith, c .before .before .before .before .pre .positions (c .before .before .loop .m) (omega arith))
 
--- src/fit.rt:22:27
 element-copy-out-slot-if : tie.Need-element-copy-out-slot-if Inv-loop μ-loop
 element-copy-out-slot-if c = c .before .before .before .before .pre .positions (c .before .before .loop .m) (omega arith)
 
--- src/fit.rt:22:39
 mul-slot-if : tie.Need-mul-slot-if Inv-loop μ-loop
 mul-slot-if c = omega (arith, c .before .before .before .before .before .pre .few)
 
--- src/fit.rt:22:39
 element-copy-out-slot-if-2 : tie.Need-element-copy-out-slot-if-2 Inv-loop μ-loop
 element-copy-out-slot-if-2 c = omega (arith, c .before .before .before .before .before .pre .few)
 
--- src/fit.rt:22:19
 slot-if-requires : tie.Need-slot-if-requires Inv-loop μ-loop
 slot-if-requires c κs = search needs
 
--- src/fit.rt:22:9
 mul-near : tie.Need-mul-near Inv-loop μ-loop
 mul-near c = omega (arith, c .before .before .before .before .before .before .before .pre .few)
 
--- src/fit.rt:22:9
 array-write-near : tie.Need-array-write-near Inv-loop μ-loop
 array-write-near c = omega (arith, c .before .before .before .before .before .before .before .pre .few)
 
--- src/fit.rt:23:9
 add-m : tie.Need-add-m Inv-loop μ-loop
 add-m c = search needs
 
--- src/fit.rt:20:5
 loop-less : tie.Need-loop-less Inv-loop μ-loop
 loop-less c = omega arith
 
--- src/fit.rt:20:5
 loop-again : tie.Need-loop-again Inv-loop μ-loop
 loop-again c =
     let a = c .before .before .before .before .before .before .before .args in
@@ -86,7 +73,6 @@ loop-again c =
           (at .inv .1),
     )
 
--- src/fit.rt:14:1
 returns : tie.Need-returns Inv-loop μ-loop
 returns c =
     let a = c .before .before .before .args in

@@ -1,13 +1,12 @@
+-- `placing::fit::place_all` meets its contract. Assumes nothing.
 use Prim.Native.Nat.{ℕ, _+_, _-_, _≤_, _<_}
-use mathlib.Core.List.{List, []}
-use mathlib.Core.Path.{_≡_, refl, sym, ap, _∙_}
+use mathlib.Core.List.{[]}
+use mathlib.Core.Path.{refl, sym, _∙_}
 use native.Mathlib.Omega.{arith}
 use borrow.Author.Needs.{needs}
 use lib.ListN.{length, getD}
-use Rattle.request.specs.View.{view}
-use Rattle.placing.specs.Placing.{problemOf}
-use Rattle.placing.specs.Meeting.{noEntry}
-use Rattle.placing.specs.Placement.{Sized, PlacedTo, BesideAsked}
+use Rattle.request.specs.View.{view, noEntry}
+use Rattle.placing.specs.inner.Placement.{Sized, PlacedTo}
 use Rattle.placing.specs.PlacementLaws.{sized, spot-ends, placed-none, placed-on, placed-refused, placed-answer, placed-starts, refused-reply, refused-starts}
 use Rattle.placing.proofs.fit.place_all.Statement.{statement}
 use Rattle.placing.proofs.fit.place_all.Tie as tie
@@ -26,7 +25,6 @@ abbrev μ-loop : tie.MeasureT-loop
 here : (start : tie.Start Inv-loop μ-loop) (k : ℕ) → k < length (start .args .order .now) → Sized (start .args .t1) (getD (start .args .order .now) k 0)
 here start k h = sized (start .args .t1) (start .args .order .now) (start .pre .asked) k h
 
--- src/fit.rt:52:17
 -- the demand that was placed ends inside the band, and the guard behind it fits too
 ends : (c : tie.After-demand Inv-loop μ-loop) →
     (c .before .before .spot .given .0 .0 + getD (c .before .before .before .before .before .before .before .before .before .before .before .args .t1 .demands) (getD (c .before .before .before .before .before .before .before .before .before .before .before .args .order .now) (c .before .before .before .before .before .before .before .before .before .loop .k) 0) noEntry .width ≤ 384)
@@ -42,37 +40,29 @@ ends c =
 cast-guard : tie.Need-cast-guard Inv-loop μ-loop
 cast-guard c = search needs
 
--- src/fit.rt:57:5
 loop-holds : tie.Need-loop-holds Inv-loop μ-loop
 loop-holds c = (omega arith, placed-none (view (c .before .args .t1)) (c .before .args .order .now) (c .before .args .at .now) (c .before .pre))
 
--- src/fit.rt:58:17
 mul-i : tie.Need-mul-i Inv-loop μ-loop
 mul-i c = search needs
 
--- src/fit.rt:58:17
 shared-slice-read-i : tie.Need-shared-slice-read-i Inv-loop μ-loop
 shared-slice-read-i c = search needs
 
--- src/fit.rt:58:17
 cast-i : tie.Need-cast-i Inv-loop μ-loop
 cast-i c = omega (arith, here (c .before .before .before .before) (c .before .before .loop .k) (c .before .loop-test .taken) .position)
 
--- src/fit.rt:59:13
 start-beside-requires : tie.Need-start-beside-requires Inv-loop μ-loop
 start-beside-requires c κs =
     let at = c .before .before .before .before .loop in
     record { asked = c .before .before .before .before .before .before .pre .asked; here = c .before .before .before .loop-test .taken; ends-are = at .inv .1 .ends-are }
 
--- src/fit.rt:60:22
 enum-known-spot : tie.Need-enum-known-spot Inv-loop μ-loop
 enum-known-spot c = search needs
 
--- src/fit.rt:61:41
 enum-told : tie.Need-enum-told Inv-loop μ-loop
 enum-told c = search needs
 
--- src/fit.rt:61:13
 returns : tie.Need-returns Inv-loop μ-loop
 returns c =
     let start = c .before .before .before .before .before .before .before .before .before in
@@ -84,65 +74,50 @@ returns c =
     = placed-refused q order (at .k) (at .end) (at .at) (at .low) (at .high) (c .before .before .before .before .before .before .loop-test .taken) (start .pre .asked .so-many) (at .inv .1)
     (sym (c .enum-told .given .1) ∙ c .before .before .start-beside .ensures)
     (small .width-inside) in
-    (refused-reply q order (getD order (at .k) 0) out, refused-starts q order (at .at) (getD order (at .k) 0) out)
+    (refused-reply q order (getD order (at .k) 0) out, refused-starts q order (at .at) (getD order (at .k) 0) (at .inv .1 .starts-full) out)
 
--- src/fit.rt:63:22
 mul-demand : tie.Need-mul-demand Inv-loop μ-loop
 mul-demand c = omega (arith, here (c .before .before .before .before .before .before .before .before .before .before) (c .before .before .before .before .before .before .before .before .loop .k) (c .before .before .before .before .before .before .before .loop-test .taken) .position)
 
--- src/fit.rt:63:22
 element-copy-out-demand : tie.Need-element-copy-out-demand Inv-loop μ-loop
 element-copy-out-demand c = here (c .before .before .before .before .before .before .before .before .before .before) (c .before .before .before .before .before .before .before .before .loop .k) (c .before .before .before .before .before .before .before .loop-test .taken) .position
 
--- src/fit.rt:65:9
 mul-at : tie.Need-mul-at Inv-loop μ-loop
 mul-at c = omega (arith, here (c .before .before .before .before .before .before .before .before .before .before .before) (c .before .before .before .before .before .before .before .before .before .loop .k) (c .before .before .before .before .before .before .before .before .loop-test .taken) .position)
 
--- src/fit.rt:65:9
 element-write-at : tie.Need-element-write-at Inv-loop μ-loop
 element-write-at c = here (c .before .before .before .before .before .before .before .before .before .before .before) (c .before .before .before .before .before .before .before .before .before .loop .k) (c .before .before .before .before .before .before .before .before .loop-test .taken) .position
 
--- src/fit.rt:66:9
 mul-low : tie.Need-mul-low Inv-loop μ-loop
 mul-low c = omega (arith, c .before .before .before .before .before .before .before .before .before .before .before .pre .asked .so-many)
 
--- src/fit.rt:66:9
 array-write-low : tie.Need-array-write-low Inv-loop μ-loop
 array-write-low c = omega (arith, c .before .before .before .before .before .before .before .before .before .before .before .pre .asked .so-many)
 
--- src/fit.rt:67:19
 add-high : tie.Need-add-high Inv-loop μ-loop
 add-high c = omega (arith, ends c)
 
--- src/fit.rt:67:19
 add-high-2 : tie.Need-add-high-2 Inv-loop μ-loop
 add-high-2 c = omega (arith, ends c)
 
--- src/fit.rt:67:9
 mul-high : tie.Need-mul-high Inv-loop μ-loop
 mul-high c = omega (arith, c .before .before .before .before .before .before .before .before .before .before .before .pre .asked .so-many)
 
--- src/fit.rt:67:9
 array-write-high : tie.Need-array-write-high Inv-loop μ-loop
 array-write-high c = omega (arith, c .before .before .before .before .before .before .before .before .before .before .before .pre .asked .so-many)
 
--- src/fit.rt:68:27
 add-higher : tie.Need-add-higher Inv-loop μ-loop
 add-higher c = omega (arith, ends c)
 
--- src/fit.rt:68:9
 higher-requires : tie.Need-higher-requires Inv-loop μ-loop
 higher-requires c κs = search needs
 
--- src/fit.rt:69:9
 add-k : tie.Need-add-k Inv-loop μ-loop
 add-k c = search needs
 
--- src/fit.rt:57:5
 loop-less : tie.Need-loop-less Inv-loop μ-loop
 loop-less c = omega arith
 
--- src/fit.rt:57:5
 loop-again : tie.Need-loop-again Inv-loop μ-loop
 loop-again c =
     let start = c .before .before .before .before .before .before .before .before .before .before .before .before in
@@ -161,7 +136,6 @@ loop-again c =
           refl,
     )
 
--- src/fit.rt:47:1
 returns-2 : tie.Need-returns-2 Inv-loop μ-loop
 returns-2 c =
     let start = c .before .before .before in

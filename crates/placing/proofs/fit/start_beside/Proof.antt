@@ -1,12 +1,12 @@
+-- `placing::fit::start_beside` meets its contract. Assumes nothing.
 use Prim.Native.Nat.{ℕ, _+_, _-_}
-use mathlib.Core.List.{List}
-use mathlib.Core.Path.{_≡_, refl, sym, ap, _∙_}
+use mathlib.Core.Path.{ap, _∙_}
 use native.Mathlib.Omega.{arith}
-use lib.ListN.{length, getD}
+use lib.ListN.{getD}
 use Rattle.request.specs.View.{view}
 use Rattle.theory.specs.Problem.{lowest}
-use Rattle.placing.specs.Near.{nearProblem, blockRows, spotWithin}
-use Rattle.placing.specs.Placement.{NearAsked, Sized}
+use Rattle.placing.specs.inner.Near.{nearProblem, blockRows, spotWithin}
+use Rattle.placing.specs.inner.Placement.{Sized}
 use Rattle.placing.specs.PlacementLaws.{sized}
 use Rattle.placing.specs.BesideLaws.{near-blocks, spot-same}
 use borrow.Author.Needs.{needs}
@@ -15,45 +15,36 @@ use Rattle.placing.proofs.fit.start_beside.Tie as tie
 use Rattle.placing.proofs.fit.start_beside.Reads as reads
 use Rattle.placing.proofs.fit.start_beside.Lts as lts
 use Rattle.placing.proofs.fit.near_ends.Reads as near-ends-reads
-use Rattle.placing.proofs.meeting.meeting_row.Reads as meeting-row-reads
 use Rattle.placing.proofs.scan.lowest_within.Reads as lowest-within-reads
 
 -- what the arrays say of the demand to place
 here : (start : tie.Start) → Sized (start .args .t1) (getD (start .args .order .now) (start .args .k) 0)
 here start = sized (start .args .t1) (start .args .order .now) (start .pre .asked) (start .args .k) (start .pre .here)
 
--- src/fit.rt:35:13
 mul-i : tie.Need-mul-i
 mul-i c = search needs
 
--- src/fit.rt:35:13
 shared-slice-read-i : tie.Need-shared-slice-read-i
 shared-slice-read-i c = search needs
 
--- src/fit.rt:35:13
 cast-i : tie.Need-cast-i
 cast-i c = omega (arith, here (c .before .before) .position)
 
--- src/fit.rt:37:17
 cast-guard : tie.Need-cast-guard
 cast-guard c = search needs
 
--- src/fit.rt:38:18
 mul-demand : tie.Need-mul-demand
 mul-demand c = omega (arith, here (c .before .before) .position)
 
--- src/fit.rt:38:18
 element-copy-out-demand : tie.Need-element-copy-out-demand
 element-copy-out-demand c = here (c .before .before) .position
 
--- src/fit.rt:40:15
 meeting-row-requires : tie.Need-meeting-row-requires
-meeting-row-requires c κs = here (c .before .before .before) .listed
+meeting-row-requires c κs = search needs
 
--- src/fit.rt:41:16
 near-ends-requires : tie.Need-near-ends-requires
 near-ends-requires c κs =
-    let start = c .before .before .before .before .before in
+    let start = c .before .before .before .before .before .before in
     let asked = start .pre .asked in
     record {
       few = omega (arith, start .pre .here, asked .so-many);
@@ -63,20 +54,18 @@ near-ends-requires c κs =
           sized (start .args .t1) (start .args .order .now) asked m (omega (arith, start .pre .here)) .position;
     }
 
--- src/fit.rt:42:34
 add-lowest-within : tie.Need-add-lowest-within
 add-lowest-within c =
-    let small = here (c .before .before .before .before .before .before .before) in
+    let small = here (c .before .before .before .before .before .before .before .before) in
     omega (arith, small .width-fits, small .slots-fit, small .guard-fits)
 
--- src/fit.rt:42:49
 sub-lowest-within : tie.Need-sub-lowest-within
-sub-lowest-within c = here (c .before .before .before .before .before .before .before) .width-fits
+sub-lowest-within c = here (c .before .before .before .before .before .before .before .before) .width-fits
 
--- src/fit.rt:42:5
 lowest-within-requires : tie.Need-lowest-within-requires
+unfolding view
 lowest-within-requires c κs =
-    let start = c .before .before .before .before .before .before .before in
+    let start = c .before .before .before .before .before .before .before .before in
     let small = here start in (
       near-blocks (view (start .args .t1)) (start .args .order .now) (start .args .low .now) (start .args .high .now)
           (c .before .near-ends .result)
@@ -91,11 +80,10 @@ lowest-within-requires c κs =
       omega (arith, small .width-fits, small .slots-fit, small .guard-fits),
     )
 
--- src/fit.rt:31:1
 returns : tie.Need-returns
 unfolding view
 returns c =
-    let start = c .before .before .before .before .before .before .before .before in
+    let start = c .before .before .before .before .before .before .before .before .before in
     let q = start .args .t1 in
     let low = start .args .low .now in
     let k = start .args .k in

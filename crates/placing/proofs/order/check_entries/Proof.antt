@@ -1,12 +1,13 @@
-use Prim.Native.Nat.{ℕ, _≤_, _-_}
-use mathlib.Core.List.{List, []}
-use mathlib.Core.Path.{_≡_, refl, sym, ap, _∙_}
+-- `placing::order::check_entries` meets its contract. Assumes nothing.
+use Prim.Native.Nat.{_≤_, _-_}
+use mathlib.Core.List.{[]}
+use mathlib.Core.Path.{_≡_, refl, sym, _∙_}
 use native.Mathlib.Omega.{arith}
 use borrow.Author.Needs.{needs}
-use lib.ListN.{length, getD, take, drop}
+use lib.ListN.{getD, take, drop}
 use Rattle.placing.specs.FirstFit.{checkEntries}
-use Rattle.placing.specs.Meeting.{MarksOf, markedIn}
-use Rattle.placing.specs.MeetingLaws.{marks-none, marks-more}
+use Rattle.meeting.specs.inner.Meeting.{MarksOf, markedIn}
+use Rattle.meeting.specs.MeetingLaws.{marks-none, marks-more}
 use Rattle.placing.specs.OrderLaws.{entry-above, entry-seen, entry-passes, entries-end}
 use Rattle.placing.proofs.order.check_entries.Statement.{statement}
 use Rattle.placing.proofs.order.check_entries.Tie as tie
@@ -20,23 +21,18 @@ Inv-loop order count seen₀ k₀ seen k =
 abbrev μ-loop : tie.MeasureT-loop
 μ-loop order count seen₀ k₀ seen k = count - k
 
--- src/order.rt:17:5
 loop-holds : tie.Need-loop-holds Inv-loop μ-loop
 loop-holds c = (omega arith, refl, marks-none 200 (c .args .order .now))
 
--- src/order.rt:18:17
 mul-i : tie.Need-mul-i Inv-loop μ-loop
 mul-i c = search needs
 
--- src/order.rt:18:17
 shared-slice-read-i : tie.Need-shared-slice-read-i Inv-loop μ-loop
 shared-slice-read-i c = omega (arith, c .before .before .before .pre)
 
--- src/order.rt:18:17
 cast-i : tie.Need-cast-i Inv-loop μ-loop
 cast-i c = omega (arith, c .shared-slice-known .given (c .before .before .loop .k))
 
--- src/order.rt:20:13
 returns : tie.Need-returns Inv-loop μ-loop
 returns c =
     let a = c .before .before .before .before .args in
@@ -44,11 +40,9 @@ returns c =
     sym (entry-above (a .count) (a .order .now) (at .k) (omega (arith, c .before .before .before .before .pre)) (c .if1 .taken))
     ∙ at .inv .1
 
--- src/order.rt:22:12
 array-read-if2 : tie.Need-array-read-if2 Inv-loop μ-loop
 array-read-if2 c = omega (arith, c .before .before .before .before .pre)
 
--- src/order.rt:23:13
 returns-2 : tie.Need-returns-2 Inv-loop μ-loop
 unfolding markedIn
 returns-2 c =
@@ -59,19 +53,15 @@ returns-2 c =
     (sym (at .inv .2 .marked i (omega (arith, c .before .before .before .before .before .pre))) ∙ c .if2 .taken))
     ∙ at .inv .1
 
--- src/order.rt:25:9
 array-write-seen : tie.Need-array-write-seen Inv-loop μ-loop
 array-write-seen c = omega (arith, c .before .before .before .before .before .pre)
 
--- src/order.rt:26:9
 add-k : tie.Need-add-k Inv-loop μ-loop
 add-k c = search needs
 
--- src/order.rt:17:5
 loop-less : tie.Need-loop-less Inv-loop μ-loop
 loop-less c = omega arith
 
--- src/order.rt:17:5
 loop-again : tie.Need-loop-again Inv-loop μ-loop
 unfolding markedIn
 loop-again c =
@@ -86,7 +76,6 @@ loop-again c =
       marks-more 200 (at .seen) (a .order .now) (at .k) (omega (arith, asked)) (omega (arith, asked)) (at .inv .2),
     )
 
--- src/order.rt:11:1
 returns-3 : tie.Need-returns-3 Inv-loop μ-loop
 returns-3 c =
     let a = c .before .before .args in

@@ -1,3 +1,4 @@
+-- `placing::order::check_order` meets its contract. Assumes nothing.
 use mathlib.Core.Path.{sym, _∙_}
 use Rattle.placing.specs.OrderLaws.{order-entries, order-length}
 use borrow.Author.Needs.{needs}
@@ -7,17 +8,14 @@ use Rattle.placing.proofs.order.check_order.Reads as reads
 use Rattle.placing.proofs.order.check_order.Lts as lts
 use Rattle.placing.proofs.order.check_entries.Reads as check-entries-reads
 
--- src/order.rt:38:9
 check-entries-requires : tie.Need-check-entries-requires
 check-entries-requires c κs = search needs
 
--- src/order.rt:32:1
 returns : tie.Need-returns
 returns c =
     let a = c .before .before .before .args in
     c .check-entries .ensures ∙ sym (order-entries (a .count) (a .order .now) (c .before .if1 .taken))
 
--- src/order.rt:32:1
 returns-2 : tie.Need-returns-2
 returns-2 c =
     let a = c .before .before .args in

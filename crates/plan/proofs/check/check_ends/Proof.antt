@@ -4,10 +4,11 @@ use mathlib.Core.Path.{_≡_, refl, sym, _∙_}
 use native.Mathlib.Omega.{arith}
 use lib.ListN.{length, drop}
 use borrow.Author.Needs.{needs}
-use borrow.Author.Tests.{ltb-true, ltb-false}
+use borrow.Author.Tests.{leb-true, leb-false}
+use Rattle.grid.specs.ReplyLaws.{passed-by, refused-by}
 use Rattle.request.specs.View.{view, viewDemand, demandAt}
 use Rattle.request.specs.ViewLaws.{demands-shown, demand-shown, mapped-length}
-use Rattle.placing.specs.Plan.{startAt}
+use Rattle.meeting.specs.Plan.{startAt}
 use Rattle.plan.specs.CheckStarts.{checkEnds}
 use Rattle.plan.specs.TurnLaws.{end-passes, end-refused, ends-done}
 use Rattle.plan.proofs.check.check_ends.Statement.{statement}
@@ -29,14 +30,17 @@ mul-demand c = search needs
 element-copy-out-demand : tie.Need-element-copy-out-demand Inv-loop μ-loop
 element-copy-out-demand c = search needs
 
-mul-end-above : tie.Need-mul-end-above Inv-loop μ-loop
-mul-end-above c = search needs
+mul-start : tie.Need-mul-start Inv-loop μ-loop
+mul-start c = search needs
 
-shared-slice-read-end-above : tie.Need-shared-slice-read-end-above Inv-loop μ-loop
-shared-slice-read-end-above c = search needs
+shared-slice-read-start : tie.Need-shared-slice-read-start Inv-loop μ-loop
+shared-slice-read-start c = search needs
 
-end-above-requires : tie.Need-end-above-requires Inv-loop μ-loop
-end-above-requires c κs = search needs
+cast-end-within : tie.Need-cast-end-within Inv-loop μ-loop
+cast-end-within c = omega (arith, c .shared-slice-known2 .given (c .before .before .before .loop .k))
+
+end-within-requires : tie.Need-end-within-requires Inv-loop μ-loop
+end-within-requires c κs = search needs
 
 returns : tie.Need-returns Inv-loop μ-loop
 unfolding startAt viewDemand
@@ -48,7 +52,7 @@ returns c =
     let all : _≡_ {A = ℕ} (length (request .demands)) 200 = search (mapped-length, needs) in
     let shown : length (v .demands) ≡ min (request .«demand_count») (length (request .demands)) = demands-shown request in
     let above : request .band .slots < startAt starts k + demandAt (v .demands) k .width =
-    rw (demand-shown request k (omega arith)) (ltb-true _ _ (sym (c .before .end-above .ensures) ∙ c .if1 .taken)) in
+    rw (demand-shown request k (omega arith)) (leb-false _ _ (refused-by (c .before .end-within .ensures) (c .if1 .taken))) in
     sym (c .before .before .before .before .before .loop .inv .1 ∙ end-refused (request .band .slots) starts (v .demands) k (omega arith) above)
 
 add-k : tie.Need-add-k Inv-loop μ-loop
@@ -67,7 +71,7 @@ loop-again c =
     let all : _≡_ {A = ℕ} (length (request .demands)) 200 = search (mapped-length, needs) in
     let shown : length (v .demands) ≡ min (request .«demand_count») (length (request .demands)) = demands-shown request in
     let within : startAt starts k + demandAt (v .demands) k .width ≤ request .band .slots =
-    rw (demand-shown request k (omega arith)) (ltb-false _ _ (sym (c .before .end-above .ensures) ∙ c .if1 .left)) in
+    rw (demand-shown request k (omega arith)) (leb-true _ _ (passed-by (c .before .end-within .ensures) (c .if1 .left))) in
     (omega arith, c .before .before .before .before .before .loop .inv .1 ∙ end-passes (request .band .slots) starts (v .demands) k (omega arith) within)
 
 returns-2 : tie.Need-returns-2 Inv-loop μ-loop
@@ -89,9 +93,10 @@ check-ends-spec =
     loop-holds
     mul-demand
     element-copy-out-demand
-    mul-end-above
-    shared-slice-read-end-above
-    end-above-requires
+    mul-start
+    shared-slice-read-start
+    cast-end-within
+    end-within-requires
     returns
     add-k
     loop-less

@@ -5,7 +5,7 @@ use Rattle.request.specs.declared.Checked.{Checked}
 use Rattle.request.specs.View.{view}
 use Rattle.request.specs.SoundLaws.{check-sound, whole-counted}
 use Rattle.request.proofs.Arrays.{whole}
-use Rattle.placing.specs.Plan.{endOfPlan}
+use Rattle.meeting.specs.Plan.{endOfPlan}
 use Rattle.plan.specs.CheckStarts.{replyWith, startsReply}
 use Rattle.plan.specs.CheckStartsLaws.{each-passed}
 use Rattle.plan.proofs.check.check_starts.Statement.{statement}

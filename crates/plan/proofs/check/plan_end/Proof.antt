@@ -9,7 +9,7 @@ use lib.ListN.{length, drop}
 use borrow.Author.Needs.{needs}
 use Rattle.request.specs.View.{DemandView, view, viewDemand}
 use Rattle.request.specs.ViewLaws.{demands-shown, demand-shown, mapped-length}
-use Rattle.placing.specs.Plan.{startAt, endFrom, endOfPlan}
+use Rattle.meeting.specs.Plan.{startAt, endFrom, endOfPlan}
 use Rattle.plan.specs.CheckStartsLaws.{each-within}
 use Rattle.plan.specs.TurnLaws.{end-turn, end-done}
 use Rattle.plan.proofs.check.plan_end.Statement.{statement}

@@ -1,7 +1,7 @@
 -- `plan::check::too_close` meets its contract. Assumes nothing.
 use borrow.Author.Tests.{lt-ltb, le-ltb}
 use borrow.Author.Needs.{needs}
-use Rattle.plan.specs.Rows.{tooClose}
+use Rattle.plan.specs.inner.Rows.{tooClose}
 use Rattle.plan.proofs.check.too_close.Statement.{statement}
 use Rattle.plan.proofs.check.too_close.Tie as tie
 

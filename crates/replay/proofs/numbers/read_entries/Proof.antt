@@ -1,6 +1,6 @@
 -- `replay::numbers::read_entries` is safe and ends. The measure is how many entries are left.
 use native.Mathlib.Omega.{arith}
-use Prim.Native.Nat.{_≤_, _-_}
+use Prim.Native.Nat.{_-_}
 use lib.ListN.{length, length-set}
 use mathlib.Core.Path.{_≡_}
 use borrow.Author.Needs.{needs}

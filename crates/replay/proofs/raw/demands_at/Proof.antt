@@ -1,6 +1,6 @@
 -- `replay::raw::demands_at` is safe and ends. The measure is how many demands are left.
 use Prim.Native.Nat.{_≤_, _-_}
-use lib.ListN.{length, length-set}
+use lib.ListN.{length}
 use mathlib.Core.Path.{_≡_}
 use borrow.Author.Needs.{needs}
 use Rattle.replay.proofs.raw.demands_at.Statement.{statement}

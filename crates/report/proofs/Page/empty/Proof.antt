@@ -1,3 +1,4 @@
+-- `report::Page::empty` meets its contract. Assumes nothing.
 use mathlib.Core.Path.{refl}
 use Rattle.report.specs.Text.{emptyPage}
 use Rattle.report.proofs.Page.empty.Statement.{statement}

@@ -6,7 +6,7 @@ use native.Mathlib.Omega.{arith}
 use borrow.Author.Needs.{needs}
 use lib.Seq.{length-take-le}
 use Rattle.request.specs.View.{view}
-use Rattle.request.specs.Steps.{Met}
+use Rattle.request.specs.inner.Met.{Met}
 use Rattle.request.specs.StepsLaws.{ground-refused, ground-passes, met-too-many, met-refused, met-on, met-all}
 use Rattle.request.proofs.Arrays.{whole}
 use Rattle.request.proofs.check.check_request.Statement.{statement}

@@ -8,7 +8,7 @@ use denote.Ref.{now}
 use lib.ListN.{length, getD, take, length-take}
 use lib.Seq.{length-take-le, getD-take}
 use Rattle.request.specs.View.{linkAt, noLink}
-use Rattle.request.specs.Route.{RouteCome}
+use Rattle.request.specs.inner.Route.{RouteCome}
 use Rattle.request.specs.RouteLaws.{come-none, come-on, come-sound, unlisted-unsound, repeated-unsound, broken-unsound}
 use Rattle.request.proofs.route.sound_route.Statement.{statement}
 use Rattle.request.proofs.route.sound_route.Tie as tie

@@ -2,13 +2,11 @@
 use mathlib.Core.List.{[]}
 use Rattle.search.specs.FoundLaws.{widths-more, widths-rest, widths-all, zeros-at, few-asked}
 use Prim.Native.Nat.{ℕ, _≤_, _<_, _-_}
-use mathlib.Core.Path.{_≡_, refl, sym, ap, _∙_}
+use mathlib.Core.Path.{_≡_, refl, _∙_}
 use native.Mathlib.Omega.{arith}
 use borrow.Author.Needs.{needs}
-use borrow.Author.Count.{below-more}
-use lib.ListN.{length, take, getD, set, length-set}
-use lib.Seq.{getD-set-same, getD-set-other}
-use Rattle.request.specs.View.{view, demandAt}
+use lib.ListN.{length, getD, length-set}
+use Rattle.request.specs.View.{view, demandAt, noEntry}
 use Rattle.search.proofs.call.first_widths.Statement.{statement}
 use Rattle.search.proofs.call.first_widths.Tie as tie
 
@@ -45,7 +43,7 @@ loop-again c = let q = c .before .before .before .args .t1 in
     let i = c .before .before .loop .i in
     let inv = c .before .before .loop .inv in
     let few = few-asked q (c .before .before .before .pre) in
-    let x = getD (q .demands) i (record { ident = 0; width = 0; hops = 0; links = [] }) .width in (
+    let x = getD (q .demands) i noEntry .width in (
       omega arith,
       length-set widths i x ∙ inv .1,
       widths-more q widths i (omega arith) (omega arith) (inv .2),

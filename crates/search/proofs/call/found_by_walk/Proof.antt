@@ -1,15 +1,44 @@
 -- `search::call::found_by_walk` meets its contract. Assumes nothing.
-use mathlib.Core.Path.{ap}
+use Prim.Native.Nat.{ℕ}
+use mathlib.Core.Bool.{Bool, true, false}
+use mathlib.Core.Path.{_≡_, sym, ap, ap₂}
 use Rattle.search.specs.declared.Outcome.{Outcome}
-use borrow.Author.Needs.{needs}
+use Rattle.search.specs.declared.Found.{Found}
+use Rattle.search.specs.declared.Walked.{Walked}
+use Rattle.search.specs.Reply.{outcomeBy}
 use Rattle.search.proofs.call.found_by_walk.Statement.{statement}
 use Rattle.search.proofs.call.found_by_walk.Tie as tie
 
-outcome-by-requires : tie.Need-outcome-by-requires
-outcome-by-requires c κs = search needs
+-- what is found with an outcome
+abbrev with : Walked → ℕ → Outcome → Found
+with w need o =
+    record {
+      answer = record { outcome = o; bound = need; steps = w .steps; reached = w .reached; ruled = w .ruled };
+      plan = w .found;
+      starts = w .starts;
+      order = w .order;
+    }
+
+-- the outcome goes by whether the steps were spent and a plan was met
+came : (w : Walked) (need : ℕ) (spent found : Bool) → w .spent ≡ spent → w .found ≡ found →
+    with w need (outcomeBy spent found (w .mark)) ≡ with w need (outcomeBy (w .spent) (w .found) (w .mark))
+came w need spent found hs hf = ap (with w need) (ap₂ (λ (s f : Bool). outcomeBy s f (w .mark)) (sym hs) (sym hf))
 
 returns : tie.Need-returns
-returns c = ap (λ (o : Outcome). record { answer = record { outcome = o; bound = c .before .before .before .args .need; steps = c .before .before .before .args .walked .steps; reached = c .before .before .before .args .walked .reached; ruled = c .before .before .before .args .walked .ruled }; plan = c .before .before .before .args .walked .found; starts = c .before .before .before .args .walked .starts; order = c .before .before .before .args .walked .order }) (c .before .before .outcome-by .ensures)
+unfolding outcomeBy
+returns c = came (c .before .before .before .before .args .walked) (c .before .before .before .before .args .need) true true (c .before .if1 .taken) (c .if2 .taken)
+
+returns-2 : tie.Need-returns-2
+unfolding outcomeBy
+returns-2 c = came (c .before .before .before .before .args .walked) (c .before .before .before .before .args .need) true false (c .before .if1 .taken) (c .if2 .left)
+
+returns-3 : tie.Need-returns-3
+unfolding outcomeBy
+returns-3 c = came (c .before .before .before .before .args .walked) (c .before .before .before .before .args .need) false true (c .before .if1 .left) (c .if3 .taken)
+
+returns-4 : tie.Need-returns-4
+unfolding outcomeBy
+returns-4 c = came (c .before .before .before .before .args .walked) (c .before .before .before .before .args .need) false false (c .before .if1 .left) (c .if3 .left)
 
 pub found-by-walk-spec : {M : Type 1} → statement M
-found-by-walk-spec = tie.close (tie.spec outcome-by-requires returns)
+found-by-walk-spec = tie.close (tie.spec returns returns-2 returns-3 returns-4)

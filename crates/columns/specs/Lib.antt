@@ -1,0 +1,4 @@
+-- A request's numbers as columns, and their laws.
+pub mod Columns
+pub mod ColumnsLaws
+pub mod WholeLaws

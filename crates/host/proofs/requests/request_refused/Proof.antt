@@ -1,0 +1,18 @@
+-- `host::requests::request_refused` meets its contract. Assumes nothing.
+use Rattle.host.specs.Host.{requestRefused}
+use borrow.Author.Needs.{needs}
+use Rattle.host.proofs.requests.request_refused.Statement.{statement}
+use Rattle.host.proofs.requests.request_refused.Tie as tie
+
+number-requires : tie.Need-number-requires
+number-requires c κs = search needs
+
+place-requires : tie.Need-place-requires
+place-requires c κs = search needs
+
+returns : tie.Need-returns
+unfolding requestRefused
+returns c = rw (← c .before .number .ensures, ← c .place .ensures)
+
+pub request-refused-spec : {M : Type 1} → statement M
+request-refused-spec = tie.close (tie.spec number-requires place-requires returns)

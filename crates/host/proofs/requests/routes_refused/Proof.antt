@@ -1,0 +1,18 @@
+-- `host::requests::routes_refused` meets its contract. Assumes nothing.
+use Rattle.host.specs.Host.{routesRefused}
+use borrow.Author.Needs.{needs}
+use Rattle.host.proofs.requests.routes_refused.Statement.{statement}
+use Rattle.host.proofs.requests.routes_refused.Tie as tie
+
+number-requires : tie.Need-number-requires
+number-requires c κs = search needs
+
+place-requires : tie.Need-place-requires
+place-requires c κs = search needs
+
+returns : tie.Need-returns
+unfolding routesRefused
+returns c = rw (← c .before .number .ensures, ← c .place .ensures)
+
+pub routes-refused-spec : {M : Type 1} → statement M
+routes-refused-spec = tie.close (tie.spec number-requires place-requires returns)

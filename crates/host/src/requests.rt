@@ -1,0 +1,125 @@
+// A request file read, for programs in C.
+use crate::LightplanRequest;
+use crate::LightplanRoutes;
+use columns::demand_columns;
+use columns::route_columns;
+use meeting::BoundReply;
+use meeting::bound;
+use reading::read_request;
+use refusal::Refusal;
+use request::Checked;
+use request::Request;
+use request::Written;
+ghost use mathlib.Core.Path.{_≡_};
+ghost use lib.ListN.{length};
+ghost use Rattle.request.specs.View.{view};
+ghost use Rattle.reading.specs.Reading.{readFile};
+ghost use Rattle.meeting.specs.Reply.{boundReply};
+ghost use Rattle.host.specs.Host.{requestRefused, requestTold, requestEntry, identsRead, widthsRead, routesRefused, routesEntry, endsRead, hopsRead, routesRead};
+
+// Reads a request file. `idents` and `widths` get the ident and the width of each demand by listing position. The reader's refusals at
+// their offsets come first, then 10 for each buffer.
+#[no_mangle]
+pub extern "C" fn lightplan_read(
+    file: &[u8],
+    idents: &mut [u16],
+    widths: &mut [u16],
+) -> LightplanRequest
+    ensures answer { λ r. ⌜ r ≡ requestEntry (readFile (now (file .entry))) (length (now (idents .entry))) (length (now (widths .entry))) ⌝ }
+    ensures idents { λ _. ⌜ now (idents .exit) ≡ identsRead (readFile (now (file .entry))) (now (idents .entry)) (now (widths .entry)) ⌝ }
+    ensures widths { λ _. ⌜ now (widths .exit) ≡ widthsRead (readFile (now (file .entry))) (now (idents .entry)) (now (widths .entry)) ⌝ }
+{
+    let reading = read_request(file);
+    let verdict = reading.verdict;
+    let request = reading.request;
+    if let Checked::Refused(why) = verdict {
+        return request_refused(why);
+    }
+    let written = demand_columns(request, idents, widths);
+    if let Written::Refused(why) = written {
+        return request_refused(why);
+    }
+    request_told(request)
+}
+
+// Reads the links and the routes of a request file. `ends` gets the two nodes of each link by its number, `hops` how many links each
+// demand's route has by listing position, and `routes` the links of all routes, demand by demand. The reader's refusals at their offsets
+// come first, then 10 for each buffer.
+#[no_mangle]
+pub extern "C" fn lightplan_read_routes(
+    file: &[u8],
+    ends: &mut [u16],
+    hops: &mut [u16],
+    routes: &mut [u16],
+) -> LightplanRoutes
+    ensures answer { λ r. ⌜ r ≡ routesEntry (readFile (now (file .entry))) (length (now (ends .entry))) (length (now (hops .entry))) (length (now (routes .entry))) ⌝ }
+    ensures ends { λ _. ⌜ now (ends .exit) ≡ endsRead (readFile (now (file .entry))) (now (ends .entry)) (now (hops .entry)) (now (routes .entry)) ⌝ }
+    ensures hops { λ _. ⌜ now (hops .exit) ≡ hopsRead (readFile (now (file .entry))) (now (ends .entry)) (now (hops .entry)) (now (routes .entry)) ⌝ }
+    ensures routes { λ _. ⌜ now (routes .exit) ≡ routesRead (readFile (now (file .entry))) (now (ends .entry)) (now (hops .entry)) (now (routes .entry)) ⌝ }
+{
+    let reading = read_request(file);
+    let verdict = reading.verdict;
+    let request = reading.request;
+    if let Checked::Refused(why) = verdict {
+        return routes_refused(why);
+    }
+    let written = route_columns(request, ends, hops, routes);
+    match written {
+        Written::Wrote(total) => LightplanRoutes {
+            refusal: 0,
+            place: 0,
+            links: request.link_count,
+            demands: request.demand_count,
+            hops: total,
+        },
+        Written::Refused(why) => routes_refused(why),
+    }
+}
+
+fn request_refused(why: Refusal) -> LightplanRequest
+    ensures { λ r. ⌜ r ≡ requestRefused why ⌝ }
+{
+    LightplanRequest {
+        refusal: why.number(),
+        place: why.place(),
+        n0: 0,
+        slots: 0,
+        guard: 0,
+        links: 0,
+        demands: 0,
+        bound: 0,
+    }
+}
+
+// The numbers of a request and its bound, or the request's own fault.
+fn request_told(request: Request) -> LightplanRequest
+    ensures { λ r. ⌜ r ≡ requestTold (boundReply (view request)) (view request) ⌝ }
+{
+    let reply = bound(request);
+    let band = request.band;
+    match reply {
+        BoundReply::Bound(need) => LightplanRequest {
+            refusal: 0,
+            place: 0,
+            n0: band.n0,
+            slots: band.slots,
+            guard: band.guard,
+            links: request.link_count,
+            demands: request.demand_count,
+            bound: need,
+        },
+        BoundReply::Refused(why) => request_refused(why),
+    }
+}
+
+fn routes_refused(why: Refusal) -> LightplanRoutes
+    ensures { λ r. ⌜ r ≡ routesRefused why ⌝ }
+{
+    LightplanRoutes {
+        refusal: why.number(),
+        place: why.place(),
+        links: 0,
+        demands: 0,
+        hops: 0,
+    }
+}

@@ -1,0 +1,3 @@
+-- Definitions that no promise speaks of: what loops keep, and what proofs pass on.
+pub mod Near
+pub mod Placement

@@ -1,0 +1,33 @@
+-- `request::tests::test_demand` meets its contract. Assumes nothing.
+use borrow.Author.Needs.{needs}
+use Rattle.request.specs.View.{viewDemand}
+use Rattle.request.specs.DemandTest.{demandTests}
+use Rattle.request.proofs.tests.test_demand.Statement.{statement}
+use Rattle.request.proofs.tests.test_demand.Tie as tie
+
+ident-used-requires : tie.Need-ident-used-requires
+ident-used-requires c κs = search needs
+
+width-allowed-requires : tie.Need-width-allowed-requires
+width-allowed-requires c κs = search needs
+
+allowed-hops-requires : tie.Need-allowed-hops-requires
+allowed-hops-requires c κs = search needs
+
+demand-route-sound-requires : tie.Need-demand-route-sound-requires
+demand-route-sound-requires c κs = search needs
+
+returns : tie.Need-returns
+unfolding viewDemand demandTests
+returns c =
+    rw (c .before .before .before .ident-used .ensures, c .before .before .width-allowed .ensures, c .before .allowed-hops .ensures, c .demand-route-sound .ensures)
+
+pub test-demand-spec : {M : Type 1} → statement M
+test-demand-spec =
+    tie.close
+    (tie.spec
+    ident-used-requires
+    width-allowed-requires
+    allowed-hops-requires
+    demand-route-sound-requires
+    returns)
