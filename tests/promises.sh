@@ -172,6 +172,11 @@ while read -r document place name; do
     fi
 done < <(named_elsewhere)
 
+# The table of what must be believed is the one that the sources give.
+while IFS= read -r row; do
+    if grep -qxF "$row" docs/ARCHITECTURE.md; then pass; else fail "docs/ARCHITECTURE.md has no row: $row"; fi
+done < <(python3 tests/lib/believed.py --table)
+
 # What must be believed rests on nothing that is inner, and no definition that serves proofs alone stands among what must be believed.
 unreached=$(python3 tests/lib/believed.py --unreached)
 if [ -z "$unreached" ]; then pass; else fail "no promise speaks of these definitions, so they belong into specs/inner: $unreached"; fi

@@ -10,10 +10,8 @@ crates/NAME/specs/inner/. The tables of worked examples are listed by themselves
     believed.py --parted      a line for each place where the two are not parted; exits with 1 if there is one
     believed.py --table       the files that must be believed, as rows for docs/ARCHITECTURE.md
     believed.py --unreached   what a file that must be believed holds besides
-    believed.py --json        the inner files that stand among the believed ones, as modules to move
 """
 
-import json
 import pathlib
 import re
 import sys
@@ -239,9 +237,8 @@ def faults(specs, reached, files):
     for module, name in sorted(reached):
         if module in inner:
             yield f"{name} of the inner {module[0]}/{module[1]} must be believed: a promise leads to it"
-    if inner:
-        for crate, module in sorted(set(files) - {module for module, _ in reached} - inner):
-            yield f"crates/{crate}/specs/{module}.antt holds nothing that must be believed and stands outside inner/"
+    for crate, module in sorted(set(files) - {module for module, _ in reached} - inner):
+        yield f"crates/{crate}/specs/{module}.antt holds nothing that must be believed and stands outside inner/"
 
 
 def main():
@@ -250,7 +247,6 @@ def main():
     with_reached = {module for module, _ in reached}
     files = [key for key in specs if not is_laws(key[1]) and key not in TABLES]
     believed = [key for key in files if key in with_reached and not is_inner(key[1])]
-    unreached = [key for key in files if key not in with_reached]
     asked = sys.argv[1] if len(sys.argv) > 1 else ""
     if asked == "--parted":
         found = list(faults(specs, reached, files))
@@ -268,10 +264,6 @@ def main():
             names = [n for n in specs[crate, module].definitions if ((crate, module), n) not in reached]
             if names:
                 print(f"{crate}/{module}: {' '.join(names)}")
-        return 0
-    if asked == "--json":
-        moves = {f"{c}/{m}": f"{c}/inner.{m}" for c, m in sorted(unreached) if not is_inner(m)}
-        print(json.dumps({"modules": moves}, indent=2, ensure_ascii=False))
         return 0
     show("To believe", believed, specs)
     show("Tables", [key for key in specs if key in TABLES], specs)
