@@ -14,7 +14,7 @@ static ucontext_t here, there;
 
 static uint8_t file[LIGHTPLAN_REQUEST_BYTES + 1], plan[LIGHTPLAN_PLAN_BYTES + 1];
 static size_t file_bytes, plan_bytes;
-static uint16_t first[LIGHTPLAN_DEMANDS], second[LIGHTPLAN_DEMANDS], routes[LIGHTPLAN_ROUTES];
+static uint16_t first[LIGHTPLAN_DEMANDS], second[LIGHTPLAN_DEMANDS], third[LIGHTPLAN_DEMANDS], routes[LIGHTPLAN_ROUTES];
 
 /* what was answered last, for a look at whether the calls did what they were made for */
 static unsigned refusal, end;
@@ -78,7 +78,8 @@ static void call_read_routes(void)
 
 static void call_search(void)
 {
-    struct lightplan_answer a = lightplan_search(file, file_bytes, 100000, first, LIGHTPLAN_DEMANDS, second, LIGHTPLAN_DEMANDS);
+    struct lightplan_answer a =
+        lightplan_search(file, file_bytes, 100000, first, LIGHTPLAN_DEMANDS, second, LIGHTPLAN_DEMANDS, third, LIGHTPLAN_DEMANDS);
     refusal = a.refusal;
     end = a.end;
 }

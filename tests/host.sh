@@ -1,8 +1,8 @@
 #!/usr/bin/env bash
-# Tests the C host: the library's entries called from C with lent memory that is looked at afterwards, and lightdesk held against the
-# program lightplan and against the second program's checks of plans, on stored and random files. All C is compiled with UBSan; where
-# AddressSanitizer runs, the entries are called on every file under it, and lightdesk says all that it has words for. SEED=... repeats
-# a run.
+# Tests the C host: the library's entries called from C with lent memory that is looked at afterwards; its searches held against the second
+# program's, buffers included; and lightdesk held against the program lightplan, against who is in the way by a few lines of C, and against
+# the second program's checks of plans, on stored and random files. All C is compiled with UBSan; where AddressSanitizer runs, the entries are
+# called on every file under it, and lightdesk says all that it has words for. SEED=... repeats a run.
 # The last line counts the runs: "N passed, 0 failed". The first difference ends it with a non-zero status.
 set -euo pipefail
 cd "$(dirname "$0")/.."
@@ -75,6 +75,7 @@ done
     compile undefined lightdesk $HOST_DESK
     compile undefined lightdesk-wrong $HOST_DESK $wrong
     compile undefined entries-wrong $entries $wrong
+    compile undefined answers tests/host/answers.c tests/host/seen.c
     compile $strict lightdesk-strict $HOST_DESK
     compile $strict entries $entries
 }
@@ -122,6 +123,12 @@ begins() {
     passed=$((passed + 1))
 }
 
+# blocked LINES: what was printed last says this, and no more, of who is in the way
+blocked() {
+    [ "$(grep '^circuit ' "$work/printed" || true)" = "$1" ] || failed "others in the way: $(grep '^circuit ' "$work/printed")"
+    passed=$((passed + 1))
+}
+
 # misuse ARGUMENT..: status 2, nothing on standard output, something on standard error
 misuse() {
     says 2 '' "$@"
@@ -134,15 +141,21 @@ by_orders="${best}the search accounted for every order of the demands, and no pl
 
 searches() {
     says 0 "$at_bound" search examples/R.request
+    blocked 'circuit 20 starts at 3: circuit 30 ends there'
     says 0 "$at_bound" search examples/R.request 5
     says 0 "$at_bound" search examples/R.request 4294967295
     says 0 'Not known after 4 steps whether this is the best there is: a plan may end lower, though none below 4.' search examples/R.request 4
     begins 'unfinished end 6 bound 4 steps 4 reached 1 ruled 0'
+    blocked $'circuit 20 starts at 2: circuit 10 ends there\ncircuit 30 starts at 3: circuit 20 ends there'
     says 1 'Not known after 0 steps whether anything fits: no plan was met, and orders are left to try.' search examples/R.request 0
     begins 'unfinished end 0 bound 4 steps 0 reached 0 ruled 0'
+    blocked ''
+    says 0 "$at_bound" search examples/blocked.request
+    blocked $'circuit 20 starts at 3: circuit 10 ends at 2, guard 1\ncircuit 40 starts at 5: circuit 20 ends at 4, guard 1'
     says 0 "$by_orders" search examples/T.request 15
     says 0 'Not known after 14 steps whether this is the best there is: a plan may end lower, though none below 2.' search examples/T.request 14
     says 1 'Nothing fits, proved: the search accounted for every order of the demands, and no plan ends within 2 slots.' search examples/tight.request
+    blocked ''
     { head -c 5 examples/R.request; printf '\0\3'; tail -c +8 examples/R.request; } >"$work/narrow"
     says 1 'Nothing fits, proved: the fullest link needs 4 slots, and the band has 3.' search "$work/narrow" 0
     says 1 'The request file is refused: it has more than the 20 demands that can be searched. Place 91 is how many it has.' search examples/nsfnet91.request
@@ -155,6 +168,7 @@ searches() {
 checks() {
     says 0 "${best}the plan is allowed and ends at the bound, and no plan can end below it." check examples/nsfnet91.request examples/nsfnet91.plan
     begins 'accepted end 80 bound 80'
+    blocked ''
     printf '\4\0\4\0\24\0\2\4\0\4\0\36\0\3\4\0\4\0\12\0\0' >"$work/higher"
     says 0 'The plan is allowed. The bound does not tell whether it is the best there is: a plan may end lower, though none below 4.' check examples/R.request "$work/higher"
     begins 'accepted end 6 bound 4'
@@ -242,11 +256,17 @@ for frames in stored random; do
     "$oracle" plans "$work/checked/$frames" <"$work/$frames" >/dev/null
 done
 
+# found FILE: the lines that a search of the file prints, but for the last: the program's, and who is in the way by a few lines of C
+found() {
+    x86_run "$program" <"$1"
+    x86_run "$work/answers" words "$1"
+}
+
 for file in examples/*.request "$work"/searched/*/*.request; do
-    x86_run "$program" <"$file" >"$work/expected"
+    found "$file" >"$work/expected"
     same "$work/expected" search "$file"
 done
-echo "as the program: $passed so far"
+echo "as the program, and as who is in the way: $passed so far"
 for file in "$work"/checked/*/*.request; do
     same "${file%.request}.lines" check "$file" "${file%.request}.plan"
 done
@@ -257,6 +277,14 @@ echo "as the second program's checks: $passed so far"
 strict_run "$work/entries" examples/*.request "$work"/*/*/*.request | tee "$work/counted" || failed "the entries"
 files=$(sed -n 's/^\([0-9]*\) files, .*/\1/p' "$work/counted")
 passed=$((passed + files))
+
+# The second program answers the same searches alike, with the same entries in every buffer: short, just enough and longer.
+x86_run "$work/answers" frames examples/*.request "$work"/searched/*/*.request >"$work/frames"
+x86_run "$work/answers" lines examples/*.request "$work"/searched/*/*.request >"$work/lines"
+"$oracle" answer <"$work/frames" | cmp - "$work/lines" || failed "searches unlike the second program's"
+lines=$(wc -l <"$work/lines")
+passed=$((passed + lines))
+echo "$lines searches as the second program's"
 
 # The walks in C answer as the proved search does, and the stack that the header names is enough.
 bench/run "$seed" 5000 >"$work/bench" 2>&1 || { cat "$work/bench"; failed "bench/run"; }
@@ -281,11 +309,13 @@ for ((fault = 1; fault <= faults; fault++)); do
 done
 echo "$faults wrong libraries noticed by the entries' test"
 
-# And by the comparison of what is printed: the faults of reading and searching, of places, of checks.
-x86_run "$program" <examples/R.request >"$work/R"
-for fault in 2 3 8 9 10 11 12 29 30; do
+# And by the comparison of what is printed: the faults of reading and searching, of who is in the way, of places, of checks.
+found examples/R.request >"$work/R"
+for fault in 2 3 8 9 10 11 12 29 30 43 44 46; do
     unlike $fault "$work/R" search examples/R.request
 done
+found examples/blocked.request >"$work/blocked"
+unlike 45 "$work/blocked" search examples/blocked.request
 printf 'refused 1 35\n' >"$work/refused"
 head -c 42 examples/R.request >"$work/cut"
 same "$work/refused" search "$work/cut"
@@ -300,7 +330,7 @@ status=0
 WRONG=42 x86_run "$work/lightdesk-wrong" search examples/R.request >"$work/printed" 2>"$work/said" || status=$?
 [ $status = 2 ] && [ ! -s "$work/printed" ] && [ -s "$work/said" ] || failed "lightdesk runs on a library of another version"
 passed=$((passed + 2))
-{ echo 'accepted end 4 bound 4'; tail -n +2 "$work/R"; } >"$work/accepted"
+{ echo 'accepted end 4 bound 4'; sed 1d "$work/R" | grep -v '^circuit '; } >"$work/accepted"
 same "$work/accepted" check examples/R.request examples/R.plan
 for fault in 20 21 22; do
     unlike $fault "$work/accepted" check examples/R.request examples/R.plan

@@ -86,6 +86,10 @@ passed=$((passed + small))
 for op in 01 02 03 04 05 06 07 08 09 0A 0B; do
     grep -q "^$op refused" "$work/census" && grep "^$op " "$work/census" | grep -qv refused || fail "call $op is not among the cases"
 done
+# Call 20 refuses nothing: it finds a start or none, and names a blocker or none.
+for words in at 'at none' nowhere 'nowhere none'; do
+    grep -q "^20 $words [0-9]*$" "$work/census" || fail "call 20 is not among the cases with '$words'"
+done
 
 # Each stream is a run of its own, as the program ends behind a malformed frame.
 "$oracle" streams "$work/streams" "$seed" "$streams" >"$work/count"

@@ -21,8 +21,11 @@ static const char help[] =
     "A file called - is standard input.\n"
     "\n"
     "The first line is the answer with its numbers, or `refused` with the number and the place of the fault. With a plan\n"
-    "a row for each demand follows: ident, start, end, central number, central MHz. The last line says in words whether\n"
-    "the plan is the best there is and how that is known, or what was refused and why.\n"
+    "a row for each demand follows: ident, start, end, central number, central MHz. After the rows of a search a line\n"
+    "for each demand that starts above 0 says who is in the way: `circuit A starts at N: circuit B ends at M, guard G`,\n"
+    "with their idents, or without a guard `circuit A starts at N: circuit B ends there`. A stands there because of B,\n"
+    "which was placed before it. The last line says in words whether the plan is the best there is and how that is\n"
+    "known, or what was refused and why.\n"
     "\n"
     "Exit status: 0 there is a plan, or the plan is accepted, be it the best or not; 1 there is none: nothing fits, the\n"
     "steps ran out before a plan was met, or a file was refused; 2 wrong usage, or a file cannot be read or written.\n";
@@ -40,6 +43,11 @@ struct desk {
     struct file file;
     struct lightplan_request request;
     uint16_t idents[LIGHTPLAN_DEMANDS], widths[LIGHTPLAN_DEMANDS];
+};
+
+/* a plan that a search found, by listing position; the order that gave it; and who is in the way of each demand */
+struct found {
+    uint16_t starts[LIGHTPLAN_SEARCHED], order[LIGHTPLAN_SEARCHED], blockers[LIGHTPLAN_SEARCHED];
 };
 
 static enum status trouble(const char *with)
@@ -99,16 +107,38 @@ static void print_rows(const struct desk *desk, const uint16_t *starts)
     }
 }
 
+/* a line for each demand that starts above 0: who keeps it from starting lower */
+static void print_blockers(const struct desk *desk, const struct found *found)
+{
+    for (size_t k = 0; k < desk->request.demands; k++) {
+        size_t blocker = found->blockers[k];
+        if (blocker == LIGHTPLAN_NOBODY)
+            continue;
+        unsigned end = (unsigned)found->starts[blocker] + desk->widths[blocker], guard = desk->request.guard;
+        printf("circuit %u starts at %u: circuit %u ends ", desk->idents[k], found->starts[k], desk->idents[blocker]);
+        if (guard)
+            printf("at %u, guard %u\n", end, guard);
+        else
+            puts("there");
+    }
+}
+
+static void print_found(const struct desk *desk, const struct found *found)
+{
+    print_rows(desk, found->starts);
+    print_blockers(desk, found);
+}
+
 static void print_counts(const char *word, const struct lightplan_answer *answer)
 {
     printf("%s end %u bound %lu steps %lu reached %llu ruled %llu\n", word, answer->end, (unsigned long)answer->bound,
            (unsigned long)answer->steps, (unsigned long long)answer->reached, (unsigned long long)answer->ruled);
 }
 
-static enum status print_finished(const struct desk *desk, const struct lightplan_answer *answer, const uint16_t *starts)
+static enum status print_finished(const struct desk *desk, const struct lightplan_answer *answer, const struct found *found)
 {
     print_counts("finished", answer);
-    print_rows(desk, starts);
+    print_found(desk, found);
     if (answer->end == answer->bound)
         puts("This is the best there is, proved: the plan ends at the bound, and no plan can end below it.");
     else
@@ -127,7 +157,7 @@ static enum status print_nothing_fits(const struct desk *desk, const struct ligh
     return NO;
 }
 
-static enum status print_unfinished(const struct desk *desk, const struct lightplan_answer *answer, const uint16_t *starts)
+static enum status print_unfinished(const struct desk *desk, const struct lightplan_answer *answer, const struct found *found)
 {
     unsigned long steps = answer->steps;
     print_counts("unfinished", answer);
@@ -135,7 +165,7 @@ static enum status print_unfinished(const struct desk *desk, const struct lightp
         printf("Not known after %lu steps whether anything fits: no plan was met, and orders are left to try.\n", steps);
         return NO;
     }
-    print_rows(desk, starts);
+    print_found(desk, found);
     printf("Not known after %lu steps whether this is the best there is: a plan may end lower, though none below %lu.\n", steps,
            (unsigned long)answer->bound);
     return YES;
@@ -144,23 +174,24 @@ static enum status print_unfinished(const struct desk *desk, const struct lightp
 static enum status search(const char *name, uint32_t limit)
 {
     struct desk desk;
-    uint16_t starts[LIGHTPLAN_SEARCHED], order[LIGHTPLAN_SEARCHED];
+    struct found found;
     enum status status = open_desk(name, &desk);
     if (status != YES)
         return status;
     struct lightplan_answer answer =
-        lightplan_search(desk.file.bytes, desk.file.length, limit, starts, LIGHTPLAN_SEARCHED, order, LIGHTPLAN_SEARCHED);
+        lightplan_search(desk.file.bytes, desk.file.length, limit, found.starts, LIGHTPLAN_SEARCHED, found.order, LIGHTPLAN_SEARCHED,
+                         found.blockers, LIGHTPLAN_SEARCHED);
     if (answer.refusal != LIGHTPLAN_ANSWERED) {
         print_refusal(stdout, answer.refusal, answer.place, "request file", desk.file.length);
         return NO;
     }
     switch (answer.outcome) {
     case LIGHTPLAN_FINISHED:
-        return print_finished(&desk, &answer, starts);
+        return print_finished(&desk, &answer, &found);
     case LIGHTPLAN_NOTHING_FITS:
         return print_nothing_fits(&desk, &answer);
     default:
-        return print_unfinished(&desk, &answer, starts);
+        return print_unfinished(&desk, &answer, &found);
     }
 }
 

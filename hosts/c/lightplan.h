@@ -25,8 +25,9 @@ extern "C" {
 #endif
 
 /* The version of these calls and structs. A library fits this header where lightplan_version() answers the same number.
-   Changes: 2 numbers outcomes from 1 (1 did from 0), tells what a check refuses, and adds lightplan_read_routes and this number. */
-#define LIGHTPLAN_VERSION 2
+   Changes: 2 numbers outcomes from 1 (1 did from 0), tells what a check refuses, and adds lightplan_read_routes and this number. 3 lends
+   lightplan_search a third buffer, for who is in the way, and adds LIGHTPLAN_NOBODY. */
+#define LIGHTPLAN_VERSION 3
 
 /* The longest files that are read. To see that a file is too long it is enough to give one byte more. */
 #define LIGHTPLAN_REQUEST_BYTES 8128
@@ -45,8 +46,11 @@ extern "C" {
 /* The most demands that are searched, so that buffers of as many entries are never too short for lightplan_search. */
 #define LIGHTPLAN_SEARCHED 20
 
-/* A stack of so many bytes is enough for any of the calls, on x86-64. Measured with the heaviest inputs: lightplan_read 59224,
-   lightplan_read_routes 59064, lightplan_check 61384, lightplan_search 60440, lightplan_check_starts 49432, lightplan_frequency 40,
+/* In the blockers of lightplan_search: nobody is in the way. Listing positions are below LIGHTPLAN_DEMANDS. */
+#define LIGHTPLAN_NOBODY 65535
+
+/* A stack of so many bytes is enough for any of the calls, on x86-64. Measured with the heaviest inputs: lightplan_read 69040,
+   lightplan_read_routes 68880, lightplan_check 70048, lightplan_search 90480, lightplan_check_starts 59232, lightplan_frequency 40,
    lightplan_version 8. */
 #define LIGHTPLAN_STACK 98304
 
@@ -159,10 +163,13 @@ struct lightplan_routes lightplan_read_routes(const uint8_t *file, size_t file_b
                                               size_t hops_count, uint16_t *routes, size_t routes_count);
 
 /* Searches a request file's demands, at most 20, for the plan with the lowest end, in at most `limit` steps. With a plan the first K
-   entries of `starts` get its starts by listing position and those of `order` the listing positions in the order that gave them; without
-   one, and behind K, both stay. Refusals: lightplan_read's of the file, then 11, then 10 for starts and then for order. */
+   entries of `starts` get its starts by listing position, those of `order` the listing positions in the order that gave them, and those
+   of `blockers`, by listing position, who keeps each demand from starting one slot lower: the listing position of the demand that is too
+   near there, of those that stand before it in the order; of several the lowest. It ends a guard below the start. A demand that starts
+   at 0 has LIGHTPLAN_NOBODY there, and no other has. Without a plan, and behind K, all three buffers stay. Refusals: lightplan_read's of
+   the file, then 11, then 10 for starts, for order and then for blockers. */
 struct lightplan_answer lightplan_search(const uint8_t *file, size_t file_bytes, uint32_t limit, uint16_t *starts, size_t starts_count,
-                                         uint16_t *order, size_t order_count);
+                                         uint16_t *order, size_t order_count, uint16_t *blockers, size_t blockers_count);
 
 /* Checks a plan file against a request file. Accepts exactly the allowed plans; the first K entries of `starts` then get the plan's
    starts by listing position. Refusals: lightplan_read's of the request file; then of the plan file 20, row by row 1, 2, 3, 14, 15 and

@@ -3,6 +3,7 @@
 use crate::bound::tested_bound;
 use crate::frames::{call_of, next_frame, Call};
 use crate::frequency::{to_block, to_frequency};
+use crate::one::{place_one, Spot};
 use crate::placing::first_fit;
 use crate::plan::{check_starts, write_plan};
 use crate::plan_file::read_plan;
@@ -41,10 +42,8 @@ pub fn answer(call: &Call, rules: &Rules) -> String {
             wrote(write_request(request, &mut out, rules), &out)
         }
         Call::Bound { request } => said(tested_bound(request, rules).map(|bound| format!("bound {bound}")), &[]),
-        Call::FirstFit { room, order, request } => placed(request, order, *room, rules),
-        Call::Search { limit, starts_room, order_room, request } => {
-            searched(request, *limit, *starts_room, *order_room, rules)
-        }
+        Call::FirstFit { rooms, order, request } => placed(request, order, rooms, rules),
+        Call::Search { limit, rooms, request } => searched(request, *limit, rooms, rules),
         Call::Check { starts, request } => {
             said(check_starts(request, starts, rules).map(|end| format!("accepted {end}")), &[])
         }
@@ -64,14 +63,18 @@ pub fn answer(call: &Call, rules: &Rules) -> String {
         Call::Block { band, n, m } => {
             said(to_block(band, *n, *m, rules).map(|(start, width)| format!("block {start} {width}")), &[])
         }
+        Call::PlaceOne { one } => match place_one(one, rules) {
+            Spot::At(start, blocker) => format!("at {start} {}", named(blocker)),
+            Spot::Nowhere(blocker) => format!("nowhere {}", named(blocker)),
+        },
     }
 }
 
-/// What first fit answers with a buffer of this many entries.
-fn placed(request: &Request, order: &[usize], room: usize, rules: &Rules) -> String {
-    let mut out = vec![ENTRY; room];
-    let end = first_fit(request, order, &mut out, rules);
-    said(end.map(|end| format!("placed {end}")), &[entries(&out)])
+/// What first fit answers with buffers of so many entries.
+fn placed(request: &Request, order: &[usize], rooms: &[usize; 2], rules: &Rules) -> String {
+    let [mut starts, mut blockers] = rooms.map(|room| vec![ENTRY; room]);
+    let end = first_fit(request, order, &mut starts, &mut blockers, rules);
+    said(end.map(|end| format!("placed {end}")), &[entries(&starts), entries(&blockers)])
 }
 
 /// The words of an answer or of a refusal, then the lent buffers.
@@ -83,18 +86,25 @@ fn said(answer: Result<String, Refusal>, buffers: &[String]) -> String {
 }
 
 pub fn refused(refusal: &Refusal) -> String {
-    format!("refused {} {}", refusal.number, refusal.place)
+    match refusal.number {
+        13 => format!("refused 13 {} {}", refusal.place, named(refusal.blocker)),
+        number => format!("refused {number} {}", refusal.place),
+    }
+}
+
+fn named(blocker: Option<usize>) -> String {
+    blocker.map_or("none".to_string(), |blocker| blocker.to_string())
 }
 
 fn wrote(count: Result<usize, Refusal>, out: &[u8]) -> String {
     said(count.map(|count| format!("wrote {count}")), &[hex(out)])
 }
 
-fn searched(request: &Request, limit: u64, starts_room: usize, order_room: usize, rules: &Rules) -> String {
-    let mut starts = vec![ENTRY; starts_room];
-    let mut order = vec![ENTRY; order_room];
-    let found = search(request, limit, &mut starts, &mut order, rules);
-    said(found.map(|found| format!("{} {}", outcome(&found), counts(&found))), &[entries(&starts), entries(&order)])
+fn searched(request: &Request, limit: u64, rooms: &[usize; 3], rules: &Rules) -> String {
+    let [mut starts, mut order, mut blockers] = rooms.map(|room| vec![ENTRY; room]);
+    let found = search(request, limit, &mut starts, &mut order, &mut blockers, rules);
+    let buffers = [entries(&starts), entries(&order), entries(&blockers)];
+    said(found.map(|found| format!("{} {}", outcome(&found), counts(&found))), &buffers)
 }
 
 fn outcome(found: &Found) -> &'static str {

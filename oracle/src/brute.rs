@@ -1,5 +1,6 @@
 //! The best end by brute force over all plans: every start of every demand, clashes told by the stated inequality.
 
+use crate::pairs::clash;
 use crate::request::Request;
 
 /// More plans than this are not tried out.
@@ -53,16 +54,5 @@ fn end_of(request: &Request, starts: &[i64]) -> i64 {
 }
 
 fn clashes_with_earlier(request: &Request, starts: &[i64], position: usize) -> bool {
-    (0..position).any(|other| share(request, other, position) && !apart(request, starts, other, position))
-}
-
-fn share(request: &Request, one: usize, other: usize) -> bool {
-    request.demands[one].route.iter().any(|link| request.demands[other].route.contains(link))
-}
-
-/// Whether one of the two is over, its guard too, before the other begins.
-fn apart(request: &Request, starts: &[i64], one: usize, other: usize) -> bool {
-    let end = |position: usize| starts[position] + request.demands[position].width;
-    let guard = request.band.guard;
-    end(one) + guard <= starts[other] || end(other) + guard <= starts[one]
+    (0..position).any(|other| clash(request, (other, starts[other]), (position, starts[position])))
 }

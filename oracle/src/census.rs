@@ -13,12 +13,13 @@ pub fn census(calls: &[Call]) -> Vec<String> {
     counts.iter().map(|((op, word), count)| format!("{op:02X} {word} {count}")).collect()
 }
 
-/// The first word of the answer to a call; a refusal's number with it.
+/// The first word of the answer to a call; a refusal's number with it, and for one demand placed alone that nobody is named.
 pub fn headline(call: &Call) -> String {
     let line = answer(call, &Rules::right());
     let mut words = line.split(' ');
     match words.next().unwrap_or("") {
         "refused" => format!("refused {:>2}", words.next().unwrap_or("")),
+        word @ ("at" | "nowhere") if line.ends_with(" none") => format!("{word} none"),
         word => word.to_string(),
     }
 }

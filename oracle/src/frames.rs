@@ -1,6 +1,7 @@
 //! Frames: op (1 byte), body length (4 bytes), body. All numbers are big-endian.
 
 use crate::fields::put_two;
+use crate::one::{One, Standing, NUMBERS_HELD};
 use crate::request::{Band, Demand, Request};
 
 const LINKS_HELD: usize = 64;
@@ -8,20 +9,21 @@ const DEMANDS_HELD: usize = 200;
 const HOPS_HELD: usize = 32;
 const ROOM_MOST: usize = 8192;
 
-/// One call, as a frame asks for it.
+/// One call, as a frame asks for it. Rooms stand in the sequence of the buffers: starts, order, blockers.
 #[derive(Clone, Debug, PartialEq)]
 pub enum Call {
     ReadRequest { file: Vec<u8> },
     Sound { request: Request },
     WriteRequest { room: usize, request: Request },
     Bound { request: Request },
-    FirstFit { room: usize, order: Vec<usize>, request: Request },
-    Search { limit: u64, starts_room: usize, order_room: usize, request: Request },
+    FirstFit { rooms: [usize; 2], order: Vec<usize>, request: Request },
+    Search { limit: u64, rooms: [usize; 3], request: Request },
     Check { starts: Vec<i64>, request: Request },
     ReadPlan { room: usize, file: Vec<u8>, request: Request },
     WritePlan { room: usize, starts: Vec<i64>, request: Request },
     Frequency { band: Band, start: i64, width: i64 },
     Block { band: Band, n: i64, m: i64 },
+    PlaceOne { one: One },
 }
 
 /// Takes the next frame off the stream. `None` for one that is cut short.
@@ -114,13 +116,14 @@ impl<'a> Cursor<'a> {
             0x02 => Call::Sound { request: self.raw()? },
             0x03 => Call::WriteRequest { room: self.room()?, request: self.raw()? },
             0x04 => Call::Bound { request: self.raw()? },
-            0x05 => Call::FirstFit { room: self.room()?, order: self.order()?, request: self.raw()? },
+            0x05 => self.first_fit()?,
             0x06 => self.search()?,
             0x07 => Call::Check { starts: self.numbers()?, request: self.raw()? },
             0x08 => Call::ReadPlan { room: self.room()?, file: self.plan_file()?, request: self.raw()? },
             0x09 => Call::WritePlan { room: self.room()?, starts: self.numbers()?, request: self.raw()? },
             0x0A => Call::Frequency { band: self.band()?, start: self.two()? as i64, width: self.two()? as i64 },
             0x0B => Call::Block { band: self.band()?, n: self.number(4)? as u32 as i32 as i64, m: self.two()? as i64 },
+            0x20 => Call::PlaceOne { one: self.one()? },
             _ => return None,
         })
     }
@@ -129,9 +132,27 @@ impl<'a> Cursor<'a> {
         Some(self.numbers()?.into_iter().map(|entry| entry as usize).collect())
     }
 
+    fn first_fit(&mut self) -> Option<Call> {
+        let rooms = [self.room()?, self.room()?];
+        Some(Call::FirstFit { rooms, order: self.order()?, request: self.raw()? })
+    }
+
     fn search(&mut self) -> Option<Call> {
         let limit = self.number(4)?;
-        Some(Call::Search { limit, starts_room: self.room()?, order_room: self.room()?, request: self.raw()? })
+        let rooms = [self.room()?, self.room()?, self.room()?];
+        Some(Call::Search { limit, rooms, request: self.raw()? })
+    }
+
+    fn standing(&mut self) -> Option<Standing> {
+        Some(Standing { meets: self.byte()?, start: self.two()? as i64, end: self.two()? as i64 })
+    }
+
+    /// What a count says beyond 200 numbers is not in the frame.
+    fn one(&mut self) -> Option<One> {
+        let count = self.two()?;
+        let [slots, guard, width] = [self.two()?, self.two()?, self.two()?].map(|number| number as i64);
+        let numbers = (0..count.min(NUMBERS_HELD)).map(|_| self.standing()).collect::<Option<_>>()?;
+        Some(One { count, slots, guard, width, numbers })
     }
 
     fn plan_file(&mut self) -> Option<Vec<u8>> {
@@ -157,13 +178,13 @@ fn op_and_body(call: &Call) -> (u8, Vec<u8>) {
         Call::Sound { request } => (0x02, raw(request)),
         Call::WriteRequest { room, request } => (0x03, [two(*room), raw(request)].concat()),
         Call::Bound { request } => (0x04, raw(request)),
-        Call::FirstFit { room, order, request } => {
+        Call::FirstFit { rooms, order, request } => {
             let order: Vec<i64> = order.iter().map(|&entry| entry as i64).collect();
-            (0x05, [two(*room), numbers(&order), raw(request)].concat())
+            (0x05, [rooms.map(two).concat(), numbers(&order), raw(request)].concat())
         }
-        Call::Search { limit, starts_room, order_room, request } => {
+        Call::Search { limit, rooms, request } => {
             let limit = (*limit as u32).to_be_bytes().to_vec();
-            (0x06, [limit, two(*starts_room), two(*order_room), raw(request)].concat())
+            (0x06, [limit, rooms.map(two).concat(), raw(request)].concat())
         }
         Call::Check { starts, request } => (0x07, [numbers(starts), raw(request)].concat()),
         Call::ReadPlan { room, file, request } => {
@@ -176,6 +197,7 @@ fn op_and_body(call: &Call) -> (u8, Vec<u8>) {
         Call::Block { band, n, m } => {
             (0x0B, [band_bytes(band), (*n as i32).to_be_bytes().to_vec(), two(*m as usize)].concat())
         }
+        Call::PlaceOne { one } => (0x20, one_bytes(one)),
     }
 }
 
@@ -196,6 +218,19 @@ fn band_bytes(band: &Band) -> Vec<u8> {
     put_two(&mut out, band.n0);
     put_two(&mut out, band.slots);
     out.push(band.guard as u8);
+    out
+}
+
+fn one_bytes(one: &One) -> Vec<u8> {
+    let mut out = two(one.count);
+    for number in [one.slots, one.guard, one.width] {
+        put_two(&mut out, number);
+    }
+    for standing in &one.numbers {
+        out.push(standing.meets);
+        put_two(&mut out, standing.start);
+        put_two(&mut out, standing.end);
+    }
     out
 }
 

@@ -1,12 +1,13 @@
 //! What the rules promise about answers, held on the answers themselves.
 
 use crate::answers::answer;
+use crate::blocker_laws::{blockers_hold, one_holds, stuck_holds, Given};
 use crate::frames::Call;
 use crate::frequency::{to_block, to_frequency};
 use crate::placing::first_fit;
 use crate::plan::{check_starts, plan_bytes};
 use crate::plan_file::read_plan;
-use crate::request::{Band, Request};
+use crate::request::{Band, Refusal, Request};
 use crate::request_file::{read_request, request_bytes};
 use crate::rules::Rules;
 use crate::walk::{factorial, search, Found, Outcome};
@@ -30,16 +31,17 @@ pub fn check(calls: &[Call]) -> bool {
     broken == 0 && held > 0
 }
 
-/// Whether the call's answer keeps its law; `None` for a refusal or a call without one.
-fn law(call: &Call, rules: &Rules) -> Option<bool> {
+/// Whether the call's answer keeps its law; `None` for a refusal other than 13 or a call without one.
+pub fn law(call: &Call, rules: &Rules) -> Option<bool> {
     match call {
         Call::ReadRequest { file } => one_encoding(file, rules),
-        Call::FirstFit { order, request, .. } => placed_is_allowed(request, order, rules),
+        Call::FirstFit { order, request, .. } => first_fit_law(request, order, rules),
         Call::Search { limit, request, .. } => search_law(request, *limit, rules),
         Call::Check { starts, request } => first_fit_suffices(request, starts, rules),
         Call::WritePlan { starts, request, .. } => written_is_read(request, starts, rules),
         Call::Frequency { band, start, width } => there_and_back(band, *start, *width, rules),
         Call::Block { band, n, m } => back_and_there(band, *n, *m, rules),
+        Call::PlaceOne { one } => one_holds(one, rules),
         _ => None,
     }
 }
@@ -50,10 +52,23 @@ fn one_encoding(file: &[u8], rules: &Rules) -> Option<bool> {
     Some(request_bytes(&request) == file)
 }
 
-fn placed_is_allowed(request: &Request, order: &[usize], rules: &Rules) -> Option<bool> {
-    let mut out = vec![0; request.demand_count];
-    let end = first_fit(request, order, &mut out, rules).ok()?;
-    Some(check_starts(request, &numbers(&out), rules) == Ok(end))
+/// What is placed is allowed, and each blocker is in the way; where 13 comes nothing can be placed.
+fn first_fit_law(request: &Request, order: &[usize], rules: &Rules) -> Option<bool> {
+    let (placed, starts, blockers) = placed_in(request, order, rules);
+    let given = Given { order, starts: &starts, blockers: &blockers };
+    match placed {
+        Ok(end) => Some(check_starts(request, &starts, rules) == Ok(end) && blockers_hold(request, &given, rules)),
+        Err(refusal) if refusal.number == 13 => Some(stuck_holds(request, order, &refusal, rules)),
+        Err(_) => None,
+    }
+}
+
+/// First fit with buffers that are long enough: its answer, the starts and the blockers.
+fn placed_in(request: &Request, order: &[usize], rules: &Rules) -> (Result<i64, Refusal>, Vec<i64>, Vec<u16>) {
+    let mut starts = vec![0; request.demand_count];
+    let mut blockers = starts.clone();
+    let placed = first_fit(request, order, &mut starts, &mut blockers, rules);
+    (placed, numbers(&starts), blockers)
 }
 
 fn numbers(entries: &[u16]) -> Vec<i64> {
@@ -65,9 +80,8 @@ fn first_fit_suffices(request: &Request, starts: &[i64], rules: &Rules) -> Optio
     check_starts(request, starts, rules).ok()?;
     let mut order: Vec<usize> = (0..request.demand_count).collect();
     order.sort_by_key(|&position| (starts[position], position));
-    let mut out = vec![0; request.demand_count];
-    let placed = first_fit(request, &order, &mut out, rules).is_ok();
-    Some(placed && numbers(&out).iter().zip(starts).all(|(found, given)| found <= given))
+    let (placed, found, _) = placed_in(request, &order, rules);
+    Some(placed.is_ok() && found.iter().zip(starts).all(|(found, given)| found <= given))
 }
 
 fn written_is_read(request: &Request, starts: &[i64], rules: &Rules) -> Option<bool> {
@@ -89,12 +103,12 @@ fn back_and_there(band: &Band, n: i64, m: i64, rules: &Rules) -> Option<bool> {
 }
 
 fn search_law(request: &Request, limit: u64, rules: &Rules) -> Option<bool> {
-    let mut buffer = [[0; 20]; 2];
-    let [starts, order] = &mut buffer;
-    let found = search(request, limit, starts, order, rules).ok()?;
+    let [mut starts, mut order, mut blockers] = [[0; 20]; 3];
+    let found = search(request, limit, &mut starts, &mut order, &mut blockers, rules).ok()?;
     let order: Vec<usize> = order[..request.demand_count].iter().map(|&entry| entry as usize).collect();
     let starts = numbers(&starts[..request.demand_count]);
-    Some(sums_hold(request, &found, &order) && plan_holds(request, &found, &order, &starts, rules))
+    let given = Given { order: &order, starts: &starts, blockers: &blockers[..request.demand_count] };
+    Some(sums_hold(request, &found, &order) && plan_holds(request, &found, &given, rules))
 }
 
 /// The whole tree, or nothing fits: K!. A finish at the bound: the rank of the order. Unfinished: below K!.
@@ -117,15 +131,16 @@ fn rank(order: &[usize]) -> u128 {
     1 + (0..order.len()).map(before).sum::<u128>()
 }
 
-/// The plan is the first fit of its order and ends between the bound and S.
-fn plan_holds(request: &Request, found: &Found, order: &[usize], starts: &[i64], rules: &Rules) -> bool {
+/// The plan is the first fit of its order, with the same blockers, and ends between the bound and S.
+fn plan_holds(request: &Request, found: &Found, given: &Given, rules: &Rules) -> bool {
     if matches!(found.outcome, Outcome::NoFit | Outcome::UnfinishedEmpty) {
         return found.end == 0;
     }
-    let mut out = vec![0; request.demand_count];
-    let placed = first_fit(request, order, &mut out, rules);
+    let (placed, starts, blockers) = placed_in(request, given.order, rules);
     placed == Ok(found.end)
-        && numbers(&out) == starts
-        && check_starts(request, starts, rules) == Ok(found.end)
+        && starts == given.starts
+        && blockers == given.blockers
+        && blockers_hold(request, given, rules)
+        && check_starts(request, &starts, rules) == Ok(found.end)
         && (found.bound..=request.band.slots).contains(&found.end)
 }

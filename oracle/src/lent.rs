@@ -6,7 +6,11 @@ use crate::slips::Slip;
 
 /// 10: the first buffer shorter than `need`; the place is the count it needs.
 pub fn test_room(rooms: &[usize], need: usize, rules: &Rules) -> Result<(), Refusal> {
-    let looked_at = if rules.slips(Slip::SecondBufferUntested) { &rooms[..1] } else { rooms };
+    let looked_at = match rules.slip {
+        Slip::SecondBufferUntested => &rooms[..rooms.len().min(1)],
+        Slip::LastBufferUntested if rooms.len() > 1 => &rooms[..rooms.len() - 1],
+        _ => rooms,
+    };
     for &room in looked_at {
         if room < need || (rules.slips(Slip::ExactRoomRefused) && room == need && need > 0) {
             return refuse(10, short_place(room, need, rules));

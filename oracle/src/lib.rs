@@ -2,6 +2,8 @@
 
 pub mod answers;
 pub mod best;
+pub mod blocker_laws;
+pub mod blockers;
 pub mod bound;
 pub mod brute;
 pub mod census;
@@ -13,7 +15,9 @@ pub mod laws;
 pub mod lent;
 pub mod lightplan;
 pub mod make;
+pub mod one;
 pub mod paint;
+pub mod pairs;
 pub mod placing;
 pub mod plan;
 pub mod plan_file;

@@ -17,7 +17,8 @@ fn shown(file: &[u8], rules: &Rules) -> Result<String, Refusal> {
     let request = read_request(file, rules)?;
     let mut starts = vec![0; request.demand_count];
     let mut order = starts.clone();
-    let found = search(&request, LIMIT, &mut starts, &mut order, rules)?;
+    let mut blockers = starts.clone();
+    let found = search(&request, LIMIT, &mut starts, &mut order, &mut blockers, rules)?;
     let mut text = format!("{} {}\n", word(&found), counts(&found));
     if matches!(found.outcome, Outcome::Finished | Outcome::Unfinished) {
         for (position, &start) in starts.iter().enumerate() {

@@ -1,5 +1,6 @@
 //! First fit: the lowest start by trying each from 0.
 
+use crate::blockers::{blocker_of_stuck, blockers, write_blockers};
 use crate::lent::{test_room, write_numbers};
 use crate::paint::{links_of, Paint};
 use crate::request::{refuse, Refusal, Request};
@@ -72,31 +73,53 @@ fn top_of(request: &Request, rules: &Rules) -> i64 {
     }
 }
 
-/// Places the demands in the order given, writes the starts by listing position and gives the plan's end.
-pub fn first_fit(request: &Request, order: &[usize], out: &mut [u16], rules: &Rules) -> Result<i64, Refusal> {
+/// Places the demands in the order given, writes starts and blockers by listing position and gives the plan's end.
+pub fn first_fit(
+    request: &Request,
+    order: &[usize],
+    starts: &mut [u16],
+    blocking: &mut [u16],
+    rules: &Rules,
+) -> Result<i64, Refusal> {
+    let rooms = [starts.len(), blocking.len()];
+    let (rooms, late) = rooms.split_at(if rules.slips(Slip::BlockersRoomLast) { 1 } else { 2 });
     for &check in &rules.checks.first_fit {
         match check {
             REQUEST => test_request(request, rules)?,
             12 => test_order(order, request.demand_count, rules)?,
-            10 => test_room(&[out.len()], request.demand_count, rules)?,
-            _ => test_placed(request, order, out, rules)?,
+            10 => test_room(rooms, request.demand_count, rules)?,
+            _ => test_placed(request, order, starts, blocking, rules)?,
         }
     }
-    let starts: Vec<i64> = place_all(request, order, rules).starts.into_iter().flatten().collect();
-    write_numbers(out, &shown_starts(&starts, order, rules), rules);
-    Ok(end_of_placed(request, order, &starts, rules))
+    test_room(late, request.demand_count, rules)?;
+    let order = &order[..request.demand_count];
+    let found: Vec<i64> = place_all(request, order, rules).starts.into_iter().flatten().collect();
+    write_numbers(starts, &shown_starts(&found, order, rules), rules);
+    write_blockers(blocking, &blockers(request, order, &found, rules), order, rules);
+    Ok(end_of_placed(request, order, &found, rules))
 }
 
-/// 13. Nothing at all is written then.
-fn test_placed(request: &Request, order: &[usize], out: &mut [u16], rules: &Rules) -> Result<(), Refusal> {
+/// 13, with who is in the way. Nothing at all is written then.
+fn test_placed(
+    request: &Request,
+    order: &[usize],
+    out: &mut [u16],
+    blocking: &mut [u16],
+    rules: &Rules,
+) -> Result<(), Refusal> {
     let placed = place_all(request, order, rules);
     let Some((position, index)) = placed.stuck else { return Ok(()) };
+    let starts: Vec<i64> = placed.starts.iter().map(|start| start.unwrap_or(0)).collect();
     if rules.slips(Slip::WritesBeforeStuck) {
         for (entry, start) in out.iter_mut().zip(&placed.starts) {
             *entry = start.map_or(*entry, |start| start as u16);
         }
     }
-    refuse(13, if rules.slips(Slip::StuckPlaceIndex) { index } else { position })
+    if rules.slips(Slip::WritesBlockersBeforeStuck) {
+        write_blockers(blocking, &blockers(request, &order[..index], &starts, rules), order, rules);
+    }
+    let place = if rules.slips(Slip::StuckPlaceIndex) { index } else { position };
+    Err(Refusal { number: 13, place, blocker: blocker_of_stuck(request, &order[..index], &starts, position, rules) })
 }
 
 /// The starts by listing position.

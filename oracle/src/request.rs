@@ -26,14 +26,16 @@ pub struct Request {
     pub demands: Vec<Demand>,
 }
 
+/// The blocker is 13's alone.
 #[derive(Clone, Copy, Debug, PartialEq)]
 pub struct Refusal {
     pub number: u8,
     pub place: usize,
+    pub blocker: Option<usize>,
 }
 
 pub fn refuse<T>(number: u8, place: usize) -> Result<T, Refusal> {
-    Err(Refusal { number, place })
+    Err(Refusal { number, place, blocker: None })
 }
 
 impl Band {

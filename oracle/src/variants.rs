@@ -138,7 +138,7 @@ fn shifted() -> Vec<Variant> {
 }
 
 /// The number, counted from 1, of the first call that the variant answers otherwise.
-fn told_apart(variant: &Variant, calls: &[Call], right: &[String]) -> Option<usize> {
+pub fn told_apart(variant: &Variant, calls: &[Call], right: &[String]) -> Option<usize> {
     let differs = |(call, line): (&Call, &String)| answer(call, &variant.rules) != *line;
     calls.iter().zip(right).position(differs).map(|index| index + 1)
 }

@@ -1,5 +1,6 @@
 //! The search: the tree of partial orders walked depth first, written out plainly.
 
+use crate::blockers::{blockers_shown, write_blockers, NONE};
 use crate::bound::bound;
 use crate::lent::{test_room, write_numbers};
 use crate::paint::{links_of, Paint};
@@ -59,22 +60,27 @@ pub fn search(
     limit: u64,
     starts: &mut [u16],
     order: &mut [u16],
+    blocking: &mut [u16],
     rules: &Rules,
 ) -> Result<Found, Refusal> {
     for &check in &rules.checks.search {
         match check {
             REQUEST => test_request(request, rules)?,
             11 => test_count(request, rules)?,
-            _ => test_rooms(request, limit, [starts.len(), order.len()], rules)?,
+            _ => test_rooms(request, limit, [starts.len(), order.len(), blocking.len()], rules)?,
         }
     }
     let (found, plan) = find(request, limit, rules);
     if let Some(plan) = plan {
         write_numbers(starts, &shown_starts(&plan, rules), rules);
         write_numbers(order, &shown_order(&plan, rules), rules);
+        write_blockers(blocking, &blockers_shown(request, &plan.order, &plan.starts, rules), &plan.order, rules);
     } else if rules.slips(Slip::WritesWithoutPlan) {
         starts.fill(0);
         order.fill(0);
+        blocking.fill(0);
+    } else if rules.slips(Slip::BlockersWrittenWithoutPlan) {
+        blocking.fill(NONE);
     }
     Ok(found)
 }
@@ -87,8 +93,9 @@ fn test_count(request: &Request, rules: &Rules) -> Result<(), Refusal> {
     Ok(())
 }
 
-/// 10 is tested before the walk begins, even if that will find nothing to write.
-fn test_rooms(request: &Request, limit: u64, rooms: [usize; 2], rules: &Rules) -> Result<(), Refusal> {
+/// 10 is tested before the walk begins, even if that will find nothing to write. All buffers need K entries, so that the
+/// answer does not tell which of them is short.
+fn test_rooms(request: &Request, limit: u64, rooms: [usize; 3], rules: &Rules) -> Result<(), Refusal> {
     if rules.slips(Slip::RoomTestedForPlanOnly) && find(request, limit, rules).1.is_none() {
         return Ok(());
     }

@@ -35,6 +35,13 @@ static void hold_written(size_t entries)
     HOLD(lent_kept(&second_lent, 2 * entries));
 }
 
+/* of all three buffers, alike */
+static void hold_all_written(size_t entries)
+{
+    hold_written(entries);
+    HOLD(lent_kept(&third_lent, 2 * entries));
+}
+
 /* ---- lightplan_read */
 
 static struct lightplan_request read_with(const uint8_t *file, size_t bytes, size_t idents, size_t widths)
@@ -98,8 +105,7 @@ static void hold_no_routes(struct lightplan_routes told, unsigned refusal, size_
 {
     HOLD(told.refusal == refusal && told.place == place);
     HOLD(told.links == 0 && told.demands == 0 && told.hops == 0);
-    hold_written(0);
-    HOLD(lent_kept(&third_lent, 0));
+    hold_all_written(0);
 }
 
 /* all links and routes, as the file's own bytes have them */
@@ -180,17 +186,41 @@ static void hold_allowed(const struct seen *seen, const uint16_t *allowed)
 
 /* ---- lightplan_search */
 
-static struct lightplan_answer search_with(const uint8_t *file, size_t bytes, uint32_t limit, size_t starts, size_t order)
+/* how many entries a search is lent, and what it leaves in them */
+struct rooms {
+    size_t starts, order, blockers;
+};
+
+struct found {
+    uint16_t starts[LIGHTPLAN_SEARCHED], order[LIGHTPLAN_SEARCHED], blockers[LIGHTPLAN_SEARCHED];
+};
+
+static struct rooms each(size_t room) { return (struct rooms){room, room, room}; }
+
+static struct lightplan_answer search_with(const uint8_t *file, size_t bytes, uint32_t limit, struct rooms rooms)
 {
-    uint16_t *first = lent_out(&first_lent, 2 * starts), *second = lent_out(&second_lent, 2 * order);
-    return lightplan_search(file, bytes, limit, first, starts, second, order);
+    uint16_t *first = lent_out(&first_lent, 2 * rooms.starts), *second = lent_out(&second_lent, 2 * rooms.order);
+    uint16_t *third = lent_out(&third_lent, 2 * rooms.blockers);
+    return lightplan_search(file, bytes, limit, first, rooms.starts, second, rooms.order, third, rooms.blockers);
 }
+
+/* the first K entries of what was lent to a search */
+static struct found found_in(struct rooms rooms, size_t k)
+{
+    struct found found = {{0}, {0}, {0}};
+    memcpy(found.starts, first_lent.first + LENT_BYTES - 2 * rooms.starts, 2 * k);
+    memcpy(found.order, second_lent.first + LENT_BYTES - 2 * rooms.order, 2 * k);
+    memcpy(found.blockers, third_lent.first + LENT_BYTES - 2 * rooms.blockers, 2 * k);
+    return found;
+}
+
+static int same_found(const struct found *a, const struct found *b) { return !memcmp(a, b, sizeof *a); }
 
 static void hold_no_answer(struct lightplan_answer answer, unsigned refusal, size_t place)
 {
     HOLD(answer.refusal == refusal && answer.place == place);
     HOLD(answer.outcome == 0 && answer.end == 0 && answer.bound == 0 && answer.steps == 0 && answer.reached == 0 && answer.ruled == 0);
-    hold_written(0);
+    hold_all_written(0);
 }
 
 static int same_answer(const struct lightplan_answer *a, const struct lightplan_answer *b)
@@ -212,22 +242,36 @@ static void hold_sums(const struct seen *seen, const struct lightplan_answer *an
         HOLD(sum < all);
 }
 
-/* what a search gives within some room: its answer holds by itself; the plan is copied to `starts` and `order` */
-static struct lightplan_answer hold_search(const struct seen *seen, uint32_t limit, size_t room, uint16_t *starts, uint16_t *order)
+/* a plan that was found: its order, its end and who is in the way hold by themselves, and it is allowed */
+static void hold_found(const struct seen *seen, const struct lightplan_answer *answer, const struct found *found)
 {
     size_t k = seen->demands;
-    struct lightplan_answer answer = search_with(seen->file, seen->bytes, limit, room, room);
+    uint16_t blockers[LIGHTPLAN_SEARCHED];
+    HOLD(is_order(found->order, k) && answer->end == end_of(seen, found->starts) && seen->bound <= answer->end);
+    blockers_of(seen, found->starts, found->order, blockers);
+    HOLD(!memcmp(found->blockers, blockers, 2 * k));
+    for (size_t i = 0; i < k; i++) {
+        size_t blocker = found->blockers[i];
+        HOLD((found->starts[i] == 0) == (blocker == LIGHTPLAN_NOBODY));
+        HOLD(blocker == LIGHTPLAN_NOBODY || found->starts[blocker] + seen->widths[blocker] + seen->guard == found->starts[i]);
+    }
+    hold_allowed(seen, found->starts);
+}
+
+/* what a search gives within some room: its answer holds by itself; what it finds is copied to `found` */
+static struct lightplan_answer hold_search(const struct seen *seen, uint32_t limit, struct rooms rooms, struct found *found)
+{
+    size_t k = seen->demands;
+    struct lightplan_answer answer = search_with(seen->file, seen->bytes, limit, rooms);
     HOLD(answer.refusal == LIGHTPLAN_ANSWERED && answer.place == 0);
     HOLD(LIGHTPLAN_FINISHED <= answer.outcome && answer.outcome <= LIGHTPLAN_UNFINISHED_EMPTY && answer.steps <= limit);
-    memcpy(starts, first_lent.first + LENT_BYTES - 2 * room, 2 * k);
-    memcpy(order, second_lent.first + LENT_BYTES - 2 * room, 2 * k);
-    hold_sums(seen, &answer, order);
+    *found = found_in(rooms, k);
+    hold_sums(seen, &answer, found->order);
     if (answer.outcome == LIGHTPLAN_FINISHED || answer.outcome == LIGHTPLAN_UNFINISHED) {
-        hold_written(k);
-        HOLD(is_order(order, k) && answer.end == end_of(seen, starts) && seen->bound <= answer.end);
-        hold_allowed(seen, starts);
+        hold_all_written(k);
+        hold_found(seen, &answer, found);
     } else {
-        hold_written(0);
+        hold_all_written(0);
         HOLD(answer.end == 0);
     }
     return answer;
@@ -236,34 +280,46 @@ static struct lightplan_answer hold_search(const struct seen *seen, uint32_t lim
 /* one step less than a search took leaves it unfinished, and as many are enough */
 static void hold_limits(const struct seen *seen, const struct lightplan_answer *answer)
 {
-    uint16_t starts[LIGHTPLAN_SEARCHED], order[LIGHTPLAN_SEARCHED];
-    struct lightplan_answer other = hold_search(seen, answer->steps, seen->demands, starts, order);
+    struct found found;
+    struct lightplan_answer other = hold_search(seen, answer->steps, each(seen->demands), &found);
     HOLD(same_answer(answer, &other));
     if (answer->steps == 0)
         return;
-    other = hold_search(seen, answer->steps - 1, PLENTY, starts, order);
+    other = hold_search(seen, answer->steps - 1, each(PLENTY), &found);
     HOLD(other.outcome >= LIGHTPLAN_UNFINISHED && other.steps == answer->steps - 1);
     HOLD(other.reached <= answer->reached && other.ruled <= answer->ruled);
+}
+
+/* each of the three buffers short, just enough and longer, with every other */
+static void hold_rooms(const struct seen *seen, const struct lightplan_answer *answer, const struct found *found)
+{
+    size_t k = seen->demands, room[3] = {k - 1, k, PLENTY};
+    for (int pick = 0; pick < 27; pick++) {
+        struct rooms rooms = {room[pick / 9], room[pick / 3 % 3], room[pick % 3]};
+        if (rooms.starts < k || rooms.order < k || rooms.blockers < k) {
+            hold_no_answer(search_with(seen->file, seen->bytes, STEPS, rooms), LIGHTPLAN_BUFFER_SHORT, k);
+        } else {
+            struct found again;
+            struct lightplan_answer other = hold_search(seen, STEPS, rooms, &again);
+            HOLD(same_answer(answer, &other) && same_found(found, &again));
+        }
+    }
+    hold_no_answer(search_with(seen->file, seen->bytes, 0, each(0)), LIGHTPLAN_BUFFER_SHORT, k);
 }
 
 static void test_search(const struct seen *seen)
 {
     size_t k = seen->demands;
-    uint16_t starts[LIGHTPLAN_SEARCHED], order[LIGHTPLAN_SEARCHED], again[LIGHTPLAN_SEARCHED], order_again[LIGHTPLAN_SEARCHED];
+    struct found found;
     if (k > LIGHTPLAN_SEARCHED) {
-        hold_no_answer(search_with(seen->file, seen->bytes, STEPS, PLENTY, PLENTY), LIGHTPLAN_TOO_MANY_TO_SEARCH, k);
-        hold_no_answer(search_with(seen->file, seen->bytes, STEPS, 0, 0), LIGHTPLAN_TOO_MANY_TO_SEARCH, k);
+        hold_no_answer(search_with(seen->file, seen->bytes, STEPS, each(PLENTY)), LIGHTPLAN_TOO_MANY_TO_SEARCH, k);
+        hold_no_answer(search_with(seen->file, seen->bytes, STEPS, each(0)), LIGHTPLAN_TOO_MANY_TO_SEARCH, k);
         return;
     }
-    struct lightplan_answer answer = hold_search(seen, STEPS, LIGHTPLAN_SEARCHED, starts, order);
-    struct lightplan_answer exact = hold_search(seen, STEPS, k, again, order_again);
-    HOLD(same_answer(&answer, &exact) && !memcmp(starts, again, 2 * k) && !memcmp(order, order_again, 2 * k));
+    struct lightplan_answer answer = hold_search(seen, STEPS, each(LIGHTPLAN_SEARCHED), &found);
     hold_limits(seen, &answer);
-    if (k > 0) {
-        hold_no_answer(search_with(seen->file, seen->bytes, STEPS, k - 1, k), LIGHTPLAN_BUFFER_SHORT, k);
-        hold_no_answer(search_with(seen->file, seen->bytes, STEPS, k, k - 1), LIGHTPLAN_BUFFER_SHORT, k);
-        hold_no_answer(search_with(seen->file, seen->bytes, 0, 0, 0), LIGHTPLAN_BUFFER_SHORT, k);
-    }
+    if (k > 0)
+        hold_rooms(seen, &answer, &found);
 }
 
 /* ---- lightplan_check */
@@ -353,7 +409,7 @@ static void test_version(void)
 static void test_nothing(void)
 {
     struct lightplan_request request = lightplan_read(NULL, 0, NULL, 0, NULL, 0);
-    struct lightplan_answer answer = lightplan_search(NULL, 0, STEPS, NULL, 0, NULL, 0);
+    struct lightplan_answer answer = lightplan_search(NULL, 0, STEPS, NULL, 0, NULL, 0, NULL, 0);
     HOLD(request.refusal == LIGHTPLAN_WRONG_TAG && request.place == 0);
     HOLD(answer.refusal == LIGHTPLAN_WRONG_TAG && answer.place == 0);
     struct lightplan_routes routes = lightplan_read_routes(NULL, 0, NULL, 0, NULL, 0, NULL, 0);
@@ -367,7 +423,7 @@ static void test_no_demand(void)
 {
     static const uint8_t file[13] = {1, 0, 5, 0, 0, 0, 1, 0, 2, 0, 2, 0, 1};
     struct lightplan_request request = lightplan_read(file, sizeof file, NULL, 0, NULL, 0);
-    struct lightplan_answer answer = lightplan_search(file, sizeof file, 0, NULL, 0, NULL, 0);
+    struct lightplan_answer answer = lightplan_search(file, sizeof file, 0, NULL, 0, NULL, 0, NULL, 0);
     HOLD(request.refusal == LIGHTPLAN_ANSWERED && request.slots == 1 && request.links == 1 && request.demands == 0 && request.bound == 0);
     uint16_t ends[2] = {7, 7};
     struct lightplan_routes routes = lightplan_read_routes(file, sizeof file, ends, 2, NULL, 0, NULL, 0);
@@ -385,8 +441,9 @@ static void test_narrow(const uint8_t *wide)
     memcpy(file, wide, sizeof file);
     file[5] = 0;
     file[6] = 3;
-    struct lightplan_answer answer = search_with(file, sizeof file, 0, 3, 3);
+    struct lightplan_answer answer = search_with(file, sizeof file, 0, each(3));
     HOLD(answer.refusal == LIGHTPLAN_ANSWERED && answer.outcome == LIGHTPLAN_NOTHING_FITS && answer.bound == 4);
+    hold_all_written(0);
 }
 
 /* three demands on two links, with every number known */
@@ -400,24 +457,49 @@ static void test_known(void)
         3, 0, 6, 0, 20, 0, 1, 0, 1,
         3, 0, 5, 0, 30, 0, 3, 1,
     };
-    static const uint16_t found[3] = {0, 3, 0}, order[3] = {0, 2, 1}, clashing[3] = {0, 2, 2};
+    static const struct found best = {{0, 3, 0}, {0, 2, 1}, {LIGHTPLAN_NOBODY, 2, LIGHTPLAN_NOBODY}};
+    static const struct found by_listing = {{0, 2, 3}, {0, 1, 2}, {LIGHTPLAN_NOBODY, 0, 1}};
+    static const uint16_t clashing[3] = {0, 2, 2};
     static const uint16_t ends[4] = {0, 1, 1, 2}, hops[3] = {1, 2, 1}, routes[4] = {0, 0, 1, 1};
     struct lightplan_routes told = routes_with(file, sizeof file, 4, 3, 4);
     HOLD(told.refusal == LIGHTPLAN_ANSWERED && told.links == 2 && told.demands == 3 && told.hops == 4);
     HOLD(!memcmp(first_lent.first + LENT_BYTES - 8, ends, 8) && !memcmp(second_lent.first + LENT_BYTES - 6, hops, 6));
     HOLD(!memcmp(third_lent.first + LENT_BYTES - 8, routes, 8));
-    struct lightplan_answer answer = search_with(file, sizeof file, 5, 3, 3);
+    struct lightplan_answer answer = search_with(file, sizeof file, 5, each(3));
+    struct found found = found_in(each(3), 3);
     HOLD(answer.outcome == LIGHTPLAN_FINISHED && answer.end == 4 && answer.bound == 4);
     HOLD(answer.steps == 5 && answer.reached == 2 && answer.ruled == 0);
-    HOLD(!memcmp(first_lent.first + LENT_BYTES - 6, found, 6) && !memcmp(second_lent.first + LENT_BYTES - 6, order, 6));
-    answer = search_with(file, sizeof file, 4, 3, 3);
-    HOLD(answer.outcome == LIGHTPLAN_UNFINISHED && answer.end == 6 && answer.steps == 4);
-    answer = search_with(file, sizeof file, 0, 3, 3);
+    HOLD(same_found(&found, &best));
+    answer = search_with(file, sizeof file, 4, each(3));
+    found = found_in(each(3), 3);
+    HOLD(answer.outcome == LIGHTPLAN_UNFINISHED && answer.end == 6 && answer.steps == 4 && same_found(&found, &by_listing));
+    answer = search_with(file, sizeof file, 0, each(3));
     HOLD(answer.outcome == LIGHTPLAN_UNFINISHED_EMPTY && answer.end == 0 && answer.steps == 0);
+    hold_all_written(0);
     test_narrow(file);
     hold_plan(lightplan_check_starts(file, sizeof file, clashing, 3), LIGHTPLAN_CLASH, 2);
     hold_plan(lightplan_check_starts(file, sizeof file, NULL, 0), LIGHTPLAN_NO_ROW, 0);
     hold_plan(lightplan_check(file, sizeof file, NULL, 0, NULL, 0), LIGHTPLAN_NO_ROW, 0);
+}
+
+/* four demands with a guard of 1: two end where the third is kept, and the one that is listed first is named */
+static void test_blocked(void)
+{
+    static const uint8_t file[57] = {
+        1, 0, 5, 254, 228, 0, 16, 1,
+        2, 0, 2, 0, 1,
+        2, 0, 2, 1, 2,
+        2, 0, 2, 2, 3,
+        3, 0, 5, 0, 10, 0, 2, 0,
+        3, 0, 5, 0, 30, 0, 2, 1,
+        3, 0, 6, 0, 20, 0, 1, 0, 1,
+        3, 0, 6, 0, 40, 0, 2, 1, 2,
+    };
+    static const struct found known = {{0, 0, 3, 5}, {0, 1, 2, 3}, {LIGHTPLAN_NOBODY, LIGHTPLAN_NOBODY, 0, 2}};
+    struct lightplan_answer answer = search_with(file, sizeof file, 4, each(4));
+    struct found found = found_in(each(4), 4);
+    HOLD(answer.outcome == LIGHTPLAN_FINISHED && answer.end == 7 && answer.bound == 7 && answer.steps == 4);
+    HOLD(same_found(&found, &known));
 }
 
 /* ---- files */
@@ -445,8 +527,8 @@ static void test_refused(const uint8_t *file, size_t bytes, const struct lightpl
     HOLD(request->refusal != LIGHTPLAN_BUFFER_SHORT);
     hold_no_routes(routes_with(file, bytes, PLENTY, PLENTY, PLENTY_OF_HOPS), request->refusal, request->place);
     hold_no_routes(routes_with(file, bytes, 0, 0, 0), request->refusal, request->place);
-    hold_no_answer(search_with(file, bytes, STEPS, PLENTY, PLENTY), request->refusal, request->place);
-    hold_no_answer(search_with(file, bytes, 0, 0, 0), request->refusal, request->place);
+    hold_no_answer(search_with(file, bytes, STEPS, each(PLENTY)), request->refusal, request->place);
+    hold_no_answer(search_with(file, bytes, 0, each(0)), request->refusal, request->place);
     hold_verdict(check_with(&seen, (const uint8_t *)&none, 0, 0), request->refusal, request->place, LIGHTPLAN_OF_REQUEST);
     hold_verdict(check_with(&seen, (const uint8_t *)&none, 2, PLENTY), request->refusal, request->place, LIGHTPLAN_OF_REQUEST);
     HOLD(lent_kept(&first_lent, 0));
@@ -490,6 +572,7 @@ int main(int count, char **words)
     test_nothing();
     test_no_demand();
     test_known();
+    test_blocked();
     for (int k = 1; k < count; k++) {
         if (!strstr(words[k], ".request")) {
             fprintf(stderr, "entries: not a request file: %s\n", words[k]);

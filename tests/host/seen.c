@@ -21,12 +21,14 @@ static uint32_t bound_of(const struct seen *seen)
 /* reads off the field of one demand */
 static void see_demand(struct seen *seen, const uint8_t *field)
 {
-    size_t hops = two(field + 1) - 4;
-    seen->idents[seen->demands] = (uint16_t)two(field + 3);
-    seen->widths[seen->demands] = (uint16_t)two(field + 5);
-    seen->hops[seen->demands++] = (uint16_t)hops;
-    for (size_t h = 0; h < hops; h++)
+    size_t hops = two(field + 1) - 4, k = seen->demands++;
+    seen->idents[k] = (uint16_t)two(field + 3);
+    seen->widths[k] = (uint16_t)two(field + 5);
+    seen->hops[k] = (uint16_t)hops;
+    for (size_t h = 0; h < hops; h++) {
         seen->routes[seen->all_hops++] = field[7 + h];
+        seen->links_of[k] |= UINT64_C(1) << field[7 + h];
+    }
 }
 
 void see(struct seen *seen, const uint8_t *file, size_t bytes)
@@ -51,6 +53,26 @@ uint32_t end_of(const struct seen *seen, const uint16_t *starts)
         if (end < (uint32_t)starts[k] + seen->widths[k])
             end = (uint32_t)starts[k] + seen->widths[k];
     return end;
+}
+
+/* whether one demand at some start is too near to another at its own */
+static int too_near(const struct seen *seen, size_t one, unsigned start, size_t other, unsigned other_start)
+{
+    int low = start + seen->widths[one] + seen->guard <= other_start, high = other_start + seen->widths[other] + seen->guard <= start;
+    return (seen->links_of[one] & seen->links_of[other]) && !low && !high;
+}
+
+void blockers_of(const struct seen *seen, const uint16_t *starts, const uint16_t *order, uint16_t *blockers)
+{
+    for (size_t turn = 0; turn < seen->demands; turn++) {
+        size_t k = order[turn];
+        blockers[k] = LIGHTPLAN_NOBODY;
+        for (size_t before = 0; starts[k] > 0 && before < turn; before++) {
+            uint16_t other = order[before];
+            if (other < blockers[k] && too_near(seen, k, starts[k] - 1u, other, starts[other]))
+                blockers[k] = other;
+        }
+    }
 }
 
 uint64_t orders_of(size_t count) { return count ? count * orders_of(count - 1) : 1; }

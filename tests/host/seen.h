@@ -4,7 +4,7 @@
 
 #include "../../hosts/c/lightplan.h"
 
-/* what a request file says, read off an accepted file's bytes */
+/* what a request file says, read off an accepted file's bytes; of each demand also its route's links as bits */
 struct seen {
     const uint8_t *file;
     size_t bytes, links, demands;
@@ -14,6 +14,7 @@ struct seen {
     uint16_t idents[LIGHTPLAN_DEMANDS], widths[LIGHTPLAN_DEMANDS];
     uint16_t ends[LIGHTPLAN_ENDS], hops[LIGHTPLAN_DEMANDS], routes[LIGHTPLAN_ROUTES];
     size_t all_hops;
+    uint64_t links_of[LIGHTPLAN_DEMANDS];
 };
 
 /* Reads off what a request file says that was accepted. */
@@ -27,6 +28,10 @@ void starts_of_rows(const struct seen *seen, const uint8_t *plan, size_t bytes, 
 
 /* Whether each of so many listing positions, at most 20, is there. */
 int is_order(const uint16_t *order, size_t count);
+
+/* For each listing position who is in the way of a plan's demand, placed in this order, one slot below its start: the lowest listing
+   position of those that stand before it in the order and are too near there, or LIGHTPLAN_NOBODY. */
+void blockers_of(const struct seen *seen, const uint16_t *starts, const uint16_t *order, uint16_t *blockers);
 
 /* How many orders there are of so many demands, and the rank of one among them, from 1, as they are listed. */
 uint64_t orders_of(size_t count);

@@ -46,6 +46,14 @@ enum fault {
     CHECK_WHICH,
     STARTS_WHICH,
     VERSION,
+    BLOCKER_NAMED,
+    BLOCKER_UNNAMED,
+    BLOCKER_LISTED_LATER,
+    BLOCKERS_BY_TURN,
+    BLOCKERS_BEHIND,
+    BLOCKERS_WITHOUT,
+    BLOCKERS_REFUSED,
+    BLOCKERS_ROOM,
     FAULTS
 };
 
@@ -103,13 +111,64 @@ struct lightplan_routes __wrap_lightplan_read_routes(const uint8_t *file, size_t
     return r;
 }
 
-struct lightplan_answer __real_lightplan_search(const uint8_t *, size_t, uint32_t, uint16_t *, size_t, uint16_t *, size_t);
+/* what a fault of the blockers goes by: how many demands there are, and their widths */
+struct demands {
+    size_t count;
+    uint16_t idents[LIGHTPLAN_DEMANDS], widths[LIGHTPLAN_DEMANDS];
+};
+
+static struct demands demands_of(const uint8_t *file, size_t file_bytes)
+{
+    struct demands d;
+    d.count = __real_lightplan_read(file, file_bytes, d.idents, LIGHTPLAN_DEMANDS, d.widths, LIGHTPLAN_DEMANDS).demands;
+    return d;
+}
+
+/* a demand that ends where this one does and is listed later; else this one */
+static uint16_t listed_later(const struct demands *d, const uint16_t *starts, uint16_t one)
+{
+    for (size_t k = one; k < d->count; k++)
+        if (k > one && starts[k] + d->widths[k] == starts[one] + d->widths[one])
+            return (uint16_t)k;
+    return one;
+}
+
+static void spoil_blockers(const struct demands *d, const uint16_t *starts, const uint16_t *order, uint16_t *blockers)
+{
+    uint16_t right[LIGHTPLAN_DEMANDS];
+    for (size_t k = 0; k < d->count; k++)
+        right[k] = blockers[k];
+    for (size_t k = 0; k < d->count; k++) {
+        if (right[k] == LIGHTPLAN_NOBODY && is(BLOCKER_NAMED))
+            blockers[k] = (uint16_t)k;
+        if (right[k] != LIGHTPLAN_NOBODY && is(BLOCKER_UNNAMED))
+            blockers[k] = LIGHTPLAN_NOBODY;
+        if (right[k] != LIGHTPLAN_NOBODY && is(BLOCKER_LISTED_LATER))
+            blockers[k] = listed_later(d, starts, right[k]);
+        if (is(BLOCKERS_BY_TURN))
+            blockers[k] = right[order[k]];
+    }
+}
+
+struct lightplan_answer __real_lightplan_search(const uint8_t *, size_t, uint32_t, uint16_t *, size_t, uint16_t *, size_t, uint16_t *,
+                                                size_t);
 
 struct lightplan_answer __wrap_lightplan_search(const uint8_t *file, size_t file_bytes, uint32_t limit, uint16_t *starts,
-                                                size_t starts_count, uint16_t *order, size_t order_count)
+                                                size_t starts_count, uint16_t *order, size_t order_count, uint16_t *blockers,
+                                                size_t blockers_count)
 {
-    struct lightplan_answer a = __real_lightplan_search(file, file_bytes, limit, starts, starts_count, order, order_count);
+    struct lightplan_answer a =
+        __real_lightplan_search(file, file_bytes, limit, starts, starts_count, order, order_count, blockers, blockers_count);
     int plan = !a.refusal && a.end;
+    struct demands d = demands_of(file, file_bytes);
+    if (plan)
+        spoil_blockers(&d, starts, order, blockers);
+    if (plan && d.count < blockers_count && is(BLOCKERS_BEHIND))
+        blockers[blockers_count - 1] = 0;
+    if (blockers_count && ((a.refusal && is(BLOCKERS_REFUSED)) || (!a.refusal && !plan && is(BLOCKERS_WITHOUT))))
+        blockers[0] = 0;
+    if (blockers_count < d.count && is(BLOCKERS_ROOM))
+        a = __real_lightplan_search(file, file_bytes, limit, starts, starts_count, order, order_count, d.idents, LIGHTPLAN_DEMANDS);
     if (file_bytes && is(SEARCH_READS_ON))
         looked_at = file[file_bytes];
     a.place += is(SEARCH_PLACE) && a.refusal;

@@ -49,7 +49,7 @@ use Rattle.host.specs.declared.LightplanAnswer.{LightplanAnswer}
 use Rattle.host.specs.declared.LightplanVerdict.{LightplanVerdict}
 use Rattle.host.specs.declared.LightplanFrequency.{LightplanFrequency}
 use Rattle.search.specs.Reply.{outcomeNumber}
-use Rattle.host.specs.Host.{version, requestRefused, requestTold, requestAfter, requestEntry, identsRead, widthsRead, routesRefused, routesTold, routesEntry, endsRead, hopsRead, routesRead, answerRefused, searchTold, answerEntry, startsSearched, orderSearched, verdictRefused, whichOf, checkTold, verdictEntry, startsRead, startsEntry, frequencyTold, frequencyEntry}
+use Rattle.host.specs.Host.{version, requestRefused, requestTold, requestAfter, requestEntry, identsRead, widthsRead, routesRefused, routesTold, routesEntry, endsRead, hopsRead, routesRead, answerRefused, searchTold, answerEntry, buffersSearched, verdictRefused, whichOf, checkTold, verdictEntry, startsRead, startsEntry, frequencyTold, frequencyEntry}
 use Rattle.lent.specs.Lent.{unlessRefused, over, writeAnswer}
 use Rattle.lent.specs.LentLaws.{room-enough}
 use Rattle.search.specs.ReplyLaws.{same-outcome, same-numbers}
@@ -77,13 +77,12 @@ pub same-routes : (file ends hops routes : List ℕ) (r r′ : LightplanRoutes) 
     (r ≡ r′) × (e ≡ e′) × (h ≡ h′) × (t ≡ t′)
 same-routes file ends hops routes r r′ e e′ h h′ t t′ hr hr′ he he′ hh hh′ ht ht′ = (hr ∙ sym hr′, he ∙ sym he′, hh ∙ sym hh′, ht ∙ sym ht′)
 
--- two results of `lightplan_search` are equal
-pub same-answer : (file : List ℕ) (limit : ℕ) (starts order : List ℕ) (r r′ : LightplanAnswer) (s s′ o o′ : List ℕ) →
-    r ≡ answerEntry (readFile file) limit (length starts) (length order) → r′ ≡ answerEntry (readFile file) limit (length starts) (length order) →
-    s ≡ startsSearched (readFile file) limit starts order → s′ ≡ startsSearched (readFile file) limit starts order →
-    o ≡ orderSearched (readFile file) limit starts order → o′ ≡ orderSearched (readFile file) limit starts order →
-    (r ≡ r′) × (s ≡ s′) × (o ≡ o′)
-same-answer file limit starts order r r′ s s′ o o′ hr hr′ hs hs′ ho ho′ = (hr ∙ sym hr′, hs ∙ sym hs′, ho ∙ sym ho′)
+-- two results of `lightplan_search` are equal, and leave the same in the buffers
+pub same-answer : (file : List ℕ) (limit : ℕ) (lent : search.Buffers) (r r′ : LightplanAnswer) (after after′ : search.Buffers) →
+    r ≡ answerEntry (readFile file) limit (search.roomsOf lent) → r′ ≡ answerEntry (readFile file) limit (search.roomsOf lent) →
+    after ≡ buffersSearched (readFile file) limit lent → after′ ≡ buffersSearched (readFile file) limit lent →
+    (r ≡ r′) × (after ≡ after′)
+same-answer file limit lent r r′ after after′ hr hr′ ha ha′ = (hr ∙ sym hr′, ha ∙ sym ha′)
 
 -- two results of `lightplan_check` are equal
 pub same-verdict : (file plan starts : List ℕ) (r r′ : LightplanVerdict) (s s′ : List ℕ) →
@@ -111,9 +110,9 @@ module _ (file : List ℕ) (why : Refusal) (read : readFile file ≡ refused why
   unfolding routesEntry
   read-routes-refused a b c = ap (λ (r : FileReading). routesEntry r a b c) read
 
-  pub search-refused : (limit a b : ℕ) → answerEntry (readFile file) limit a b ≡ answerRefused why
+  pub search-refused : (limit : ℕ) (rooms : List ℕ) → answerEntry (readFile file) limit rooms ≡ answerRefused why
   unfolding answerEntry
-  search-refused limit a b = ap (λ (r : FileReading). answerEntry r limit a b) read
+  search-refused limit rooms = ap (λ (r : FileReading). answerEntry r limit rooms) read
 
   pub check-refused : (plan : List ℕ) (room : ℕ) → verdictEntry (readFile file) plan room ≡ verdictRefused 1 why
   unfolding verdictEntry
@@ -170,15 +169,13 @@ module _ (file : List ℕ) (v : View) (bytes : Bytes file) (read : readFile file
         ap (λ (f : FileReading). routesRead f e h r) read ∙ sym (told .1 .1 .1),
       )
 
-  pub search-answers : (limit : ℕ) (starts order : List ℕ) →
-      (answerEntry (readFile file) limit (length starts) (length order) ≡ searchTold (search.searchReply v limit (length starts) (length order))) ×
-      (startsSearched (readFile file) limit starts order ≡ search.startsAfter v limit starts order) ×
-      (orderSearched (readFile file) limit starts order ≡ search.orderAfter v limit starts order)
-  unfolding answerEntry startsSearched orderSearched
-  search-answers limit starts order = (
-    ap (λ (r : FileReading). answerEntry r limit (length starts) (length order)) read,
-    ap (λ (r : FileReading). startsSearched r limit starts order) read,
-    ap (λ (r : FileReading). orderSearched r limit starts order) read,
+  pub search-answers : (limit : ℕ) (lent : search.Buffers) →
+      (answerEntry (readFile file) limit (search.roomsOf lent) ≡ searchTold (search.searchReply v limit (search.roomsOf lent))) ×
+      (buffersSearched (readFile file) limit lent ≡ search.buffersAfter v limit lent)
+  unfolding answerEntry buffersSearched
+  search-answers limit lent = (
+    ap (λ (r : FileReading). answerEntry r limit (search.roomsOf lent)) read,
+    ap (λ (r : FileReading). buffersSearched r limit lent) read,
   )
 
   pub check-answers : (file′ starts : List ℕ) →
@@ -302,15 +299,15 @@ read-routes-refused-keeps (accepted v) e h r n =
     (λ (why : Refusal) (failed : tests ≡ checked.Refused why).
     let kept = routes-refused v e h r why failed in (sym (kept .1 .0), sym (kept .1 .1 .0), sym (kept .1 .1 .1)))
 
-pub search-refused-keeps : (read : FileReading) (limit : ℕ) (starts order : List ℕ) → answerEntry read limit (length starts) (length order) .refusal ≢ 0 →
-    (startsSearched read limit starts order ≡ starts) × (orderSearched read limit starts order ≡ order)
-unfolding answerEntry searchTold startsSearched orderSearched search.searchReply search.replyTo search.startsAfter search.orderAfter unlessRefused
-search-refused-keeps (refused why) limit starts order h = (refl, refl)
-search-refused-keeps (accepted v) limit starts order h =
-    let tests = search.checkSearch v (length starts) (length order) in
+pub search-refused-keeps : (read : FileReading) (limit : ℕ) (lent : search.Buffers) → answerEntry read limit (search.roomsOf lent) .refusal ≢ 0 →
+    buffersSearched read limit lent ≡ lent
+unfolding answerEntry searchTold buffersSearched search.searchReply search.replyTo search.buffersAfter unlessRefused
+search-refused-keeps (refused why) limit lent h = refl
+search-refused-keeps (accepted v) limit lent h =
+    let tests = search.checkSearch v (search.roomsOf lent) in
     by-check tests
     (λ (passed : tests ≡ checked.Sound). absurd (h (ap (λ (c : Checked). searchTold (search.replyTo c (search.searched v limit)) .refusal) passed)))
-    (λ (why : Refusal) (failed : tests ≡ checked.Refused why). rw failed (refl, refl))
+    (λ (why : Refusal) (failed : tests ≡ checked.Refused why). rw failed)
 
 pub check-refused-keeps : (read : FileReading) (file starts : List ℕ) → verdictEntry read file (length starts) .refusal ≢ 0 → startsRead read file starts ≡ starts
 unfolding verdictEntry startsRead plan.planStarts

@@ -32,9 +32,9 @@ use Rattle.host.specs.declared.LightplanAnswer.{LightplanAnswer}
 use Rattle.host.specs.declared.LightplanVerdict.{LightplanVerdict}
 use Rattle.host.specs.declared.LightplanFrequency.{LightplanFrequency}
 
--- the version of the calls: 1 had five calls and outcomes from 0 on
+-- the version of the calls: 1 had five calls and outcomes from 0 on, 2 a search without blockers
 unfoldable pub version : ℕ
-version = 2
+version = 3
 
 -- ---- a request file read
 
@@ -137,21 +137,16 @@ searchTold (search-reply.Answered a) =
     }
 searchTold (search-reply.Refused why) = answerRefused why
 
--- the answer for a file, a limit, and buffers of these lengths: the reader's refusal, or the search's reply
-unfoldable pub answerEntry : FileReading → ℕ → ℕ → ℕ → LightplanAnswer
+-- the answer for a file, a limit, and buffers of these rooms: the reader's refusal, or the search's reply
+unfoldable pub answerEntry : FileReading → ℕ → List ℕ → LightplanAnswer
 unfolding answerRefused searchTold
-answerEntry (refused why) limit startsRoom orderRoom = answerRefused why
-answerEntry (accepted v) limit startsRoom orderRoom = searchTold (search.searchReply v limit startsRoom orderRoom)
+answerEntry (refused why) limit rooms = answerRefused why
+answerEntry (accepted v) limit rooms = searchTold (search.searchReply v limit rooms)
 
--- the buffer of starts afterwards: as the search leaves it, as it was where the file is refused
-unfoldable pub startsSearched : FileReading → ℕ → List ℕ → List ℕ → List ℕ
-startsSearched (refused why) limit starts order = starts
-startsSearched (accepted v) limit starts order = search.startsAfter v limit starts order
-
--- and the buffer of the order, alike
-unfoldable pub orderSearched : FileReading → ℕ → List ℕ → List ℕ → List ℕ
-orderSearched (refused why) limit starts order = order
-orderSearched (accepted v) limit starts order = search.orderAfter v limit starts order
+-- the buffers of starts, order and blockers afterwards: as the search leaves them, as they were where the file is refused
+unfoldable pub buffersSearched : FileReading → ℕ → search.Buffers → search.Buffers
+buffersSearched (refused why) limit lent = lent
+buffersSearched (accepted v) limit lent = search.buffersAfter v limit lent
 
 -- ---- a plan checked against a request file
 

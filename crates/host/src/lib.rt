@@ -75,7 +75,7 @@ pub struct LightplanFrequency {
 }
 
 // Which calls these are and how their answers are laid out.
-const VERSION: u32 = 2;
+const VERSION: u32 = 3;
 
 // The version, which a header must have too to fit this library.
 #[no_mangle]

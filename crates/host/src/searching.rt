@@ -7,23 +7,25 @@ use search::Outcome;
 use search::SearchReply;
 use search::search;
 ghost use mathlib.Core.Path.{_≡_};
-ghost use lib.ListN.{length};
 ghost use Rattle.reading.specs.Reading.{readFile};
-ghost use Rattle.search.specs.Reply.{outcomeNumber, outcomeEnd};
-ghost use Rattle.host.specs.Host.{answerRefused, searchTold, answerEntry, startsSearched, orderSearched};
+ghost use Rattle.search.specs.Reply.{outcomeNumber, outcomeEnd, buffersOf, roomsOf};
+ghost use Rattle.host.specs.Host.{answerRefused, searchTold, answerEntry, buffersSearched};
 
 // Searches the request in a file with at most `limit` steps. With a plan `starts` gets its start of each demand by listing
-// position, and `order` the order that gave it. The reader's refusals at their offsets come first, then 11 and 10.
+// position, `order` the order that gave it, and `blockers` by listing position who keeps each demand from starting lower, 65535 for
+// nobody. The reader's refusals at their offsets come first, then 11, and 10 for each buffer.
 #[no_mangle]
 pub extern "C" fn lightplan_search(
     file: &[u8],
     limit: u32,
     starts: &mut [u16],
     order: &mut [u16],
+    blockers: &mut [u16],
 ) -> LightplanAnswer
-    ensures answer { λ r. ⌜ r ≡ answerEntry (readFile (now (file .entry))) limit (length (now (starts .entry))) (length (now (order .entry))) ⌝ }
-    ensures starts { λ _. ⌜ now (starts .exit) ≡ startsSearched (readFile (now (file .entry))) limit (now (starts .entry)) (now (order .entry)) ⌝ }
-    ensures order { λ _. ⌜ now (order .exit) ≡ orderSearched (readFile (now (file .entry))) limit (now (starts .entry)) (now (order .entry)) ⌝ }
+    ensures answer { λ r. ⌜ r ≡ answerEntry (readFile (now (file .entry))) limit (roomsOf (buffersOf (now (starts .entry)) (now (order .entry)) (now (blockers .entry)))) ⌝ }
+    ensures starts { λ _. ⌜ now (starts .exit) ≡ buffersSearched (readFile (now (file .entry))) limit (buffersOf (now (starts .entry)) (now (order .entry)) (now (blockers .entry))) .starts ⌝ }
+    ensures order { λ _. ⌜ now (order .exit) ≡ buffersSearched (readFile (now (file .entry))) limit (buffersOf (now (starts .entry)) (now (order .entry)) (now (blockers .entry))) .order ⌝ }
+    ensures blockers { λ _. ⌜ now (blockers .exit) ≡ buffersSearched (readFile (now (file .entry))) limit (buffersOf (now (starts .entry)) (now (order .entry)) (now (blockers .entry))) .blockers ⌝ }
 {
     let reading = read_request(file);
     let verdict = reading.verdict;
@@ -31,7 +33,7 @@ pub extern "C" fn lightplan_search(
     if let Checked::Refused(why) = verdict {
         return answer_refused(why);
     }
-    let reply = search(request, limit, starts, order);
+    let reply = search(request, limit, starts, order, blockers);
     search_told(reply)
 }
 

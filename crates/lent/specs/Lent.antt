@@ -1,6 +1,6 @@
 -- What a lent buffer holds after a call.
 use Prim.Native.Nat.{ℕ}
-use mathlib.Core.List.{List, _++_}
+use mathlib.Core.List.{List, [], _∷_, _++_}
 use lib.ListN.{length, drop}
 use lib.Dec.{leb}
 use Rattle.refusal.specs.declared.Refusal.the-variants.{BufferShort}
@@ -15,12 +15,18 @@ unfoldable pub checkRoom : ℕ → ℕ → Checked
 unfolding must
 checkRoom need room = must (leb need room) (BufferShort need)
 
+-- 10 for the first of several buffers that has less room than each of them needs
+unfoldable pub checkRooms : ℕ → List ℕ → Checked
+unfolding then checkRoom
+checkRooms need [] = Sound
+checkRooms need (room ∷ rooms) = then (checkRoom need room) (checkRooms need rooms)
+
 -- a buffer whose first entries are these, the rest as it was
 unfoldable pub over : List ℕ → List ℕ → List ℕ
 over entries buffer = entries ++ drop (length entries) buffer
 
--- a buffer after a call: a refusal leaves it as it was
-unfoldable pub unlessRefused : Checked → List ℕ → List ℕ → List ℕ
+-- a buffer, or several, after a call: a refusal leaves all as it was
+unfoldable pub unlessRefused : {A : Type 0} → Checked → A → A → A
 unlessRefused (Refused why) before after = before
 unlessRefused Sound before after = after
 

@@ -1,12 +1,13 @@
 -- Buffers that are written at their front.
 use Prim.Native.Nat.{ℕ, suc, _+_, _≤_, _<_}
-use mathlib.Core.List.{List, [], _∷_, _++_}
+use mathlib.Core.List.{List, [], _∷_, _++_, List·Memᴰ, List·Memᴰ·not-nil, List·Memᴰ·cases-cons}
+use mathlib.Core.Logic.{⊎-elim}
 use mathlib.Core.Path.{_≡_, refl, sym, ap, _∙_}
 use native.Mathlib.Omega.{arith}
 use native.Mathlib.Numerals.{add-one}
 use borrow.Author.Tests.{leb-true, le-leb, lt-leb}
 use lib.Dec.{leb}
-use lib.ListN.{length, take, drop, set, getD}
+use lib.ListN.{length, take, drop, set, getD, drop-of-length-le}
 use lib.Seq.{sets, sets-eq, drop-cons, set-at, append-snoc, take-suc, take-all, take-at, drop-at, length-take-le}
 use Rattle.refusal.specs.declared.Refusal.{Refusal}
 use Rattle.refusal.specs.declared.Refusal.the-variants.{BufferShort}
@@ -15,7 +16,7 @@ use Rattle.request.specs.declared.Checked.the-variants.{Sound, Refused}
 use Rattle.request.specs.declared.Written.the-variants.{Wrote, Refused as Unwritten}
 use Rattle.request.specs.Check.{then, must}
 use Rattle.request.specs.CheckLaws.{then-sound, then-refused, first-sound, next-sound, test-held}
-use Rattle.lent.specs.Lent.{checkRoom, over, writeAnswer, writeReply}
+use Rattle.lent.specs.Lent.{checkRoom, checkRooms, over, writeAnswer, writeReply}
 
 -- enough room
 pub room-enough : (need room : ℕ) → need ≤ room → Sound ≡ checkRoom need room
@@ -31,6 +32,55 @@ room-short need room h = rw (lt-leb need room h)
 pub room-held : (need room : ℕ) → checkRoom need room ≡ Sound → need ≤ room
 unfolding checkRoom
 room-held need room h = leb-true need room (test-held (leb need room) (BufferShort need) h)
+
+-- no buffer is left to test
+pub rooms-done : (need : ℕ) (rooms : List ℕ) (k : ℕ) → length rooms ≤ k → checkRooms need rooms ≡ checkRooms need (drop k rooms) →
+    Sound ≡ checkRooms need rooms
+unfolding checkRooms
+rooms-done need rooms k h e = sym (e ∙ ap (checkRooms need) (drop-of-length-le rooms {i = k} h))
+
+module _ (need : ℕ) (rooms : List ℕ) (k : ℕ) (there : k < length rooms) (passed : checkRooms need rooms ≡ checkRooms need (drop k rooms)) where
+  -- the buffer at k is tested next
+  rooms-next : checkRooms need rooms ≡ then (checkRoom need (getD rooms k 0)) (checkRooms need (drop (k + 1) rooms))
+  unfolding checkRooms
+  rooms-next =
+      passed
+      ∙ ap (checkRooms need) (drop-cons rooms k 0 there)
+      ∙ ap (λ (n : ℕ). then (checkRoom need (getD rooms k 0)) (checkRooms need (drop n rooms))) (sym (add-one k))
+
+  -- a buffer with room passes
+  pub rooms-pass : need ≤ getD rooms k 0 → checkRooms need rooms ≡ checkRooms need (drop (k + 1) rooms)
+  rooms-pass h =
+      rooms-next ∙ then-sound (checkRoom need (getD rooms k 0)) (checkRooms need (drop (k + 1) rooms)) (sym (room-enough need (getD rooms k 0) h))
+
+  -- the first that is too short is the refusal
+  pub rooms-short : getD rooms k 0 < need → Refused (BufferShort need) ≡ checkRooms need rooms
+  rooms-short h =
+      sym (rooms-next ∙ then-refused (checkRoom need (getD rooms k 0)) (checkRooms need (drop (k + 1) rooms)) (BufferShort need) (sym (room-short need (getD rooms k 0) h)))
+
+-- one buffer more with room
+pub rooms-with : (need room : ℕ) (rooms : List ℕ) → need ≤ room → checkRooms need rooms ≡ Sound → checkRooms need (room ∷ rooms) ≡ Sound
+unfolding checkRooms
+rooms-with need room rooms h k = then-sound (checkRoom need room) (checkRooms need rooms) (sym (room-enough need room h)) ∙ k
+
+-- no buffer needs no room
+pub rooms-none : (need : ℕ) → checkRooms need [] ≡ Sound
+unfolding checkRooms
+rooms-none need = refl
+
+-- what the test for rooms passes has room in each buffer
+pub rooms-held : (need : ℕ) (rooms : List ℕ) → checkRooms need rooms ≡ Sound → (room : ℕ) → List·Memᴰ room rooms → need ≤ room
+unfolding checkRooms
+rooms-held need [] h room m = absurd (List·Memᴰ·not-nil m)
+rooms-held need (first ∷ rooms) h room m =
+    ⊎-elim
+    (λ (e : room ≡ first). rw e (room-held need first (first-sound (checkRoom need first) (checkRooms need rooms) h)))
+    (rooms-held need rooms (next-sound (checkRoom need first) (checkRooms need rooms) h) room)
+    (List·Memᴰ·cases-cons m)
+
+-- two results that meet the contract of `check_rooms` are equal
+pub same-rooms : (need : ℕ) (rooms : List ℕ) (c c′ : Checked) → c ≡ checkRooms need rooms → c′ ≡ checkRooms need rooms → c ≡ c′
+same-rooms need rooms c c′ h k = h ∙ sym k
 
 -- one entry more at the front of a buffer
 pub front-turn : (entries out : List ℕ) (k : ℕ) → k < length entries → k < length out →

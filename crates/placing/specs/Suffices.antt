@@ -19,9 +19,9 @@ unfoldable pub endIn : View → List ℕ → ℕ → ℕ
 unfolding startAt
 endIn v plan i = startAt plan i + demandAt (v .demands) i .width
 
--- first fit in an order does as well as a plan: it places all demands, each as low as the plan does or lower, and so the whole
-pub record AsLowAs (v : View) (plan order starts : List ℕ) : Type 0 where
+-- first fit in an order, with buffers of these rooms, does as well as a plan: it places all demands, each as low as the plan does or lower, and so the whole
+pub record AsLowAs (v : View) (plan order rooms starts : List ℕ) : Type 0 where
   pub end : ℕ
-  pub not-refused : placedTold (firstFitReply v order starts) ≡ (0, end ∷ [])
-  pub none-higher : (i : ℕ) → i < v .demandCount → endIn v (firstFitStarts v order starts) i ≤ endIn v plan i
+  pub not-refused : placedTold (firstFitReply v order rooms) ≡ (0, end ∷ [])
+  pub none-higher : (i : ℕ) → i < v .demandCount → endIn v (firstFitStarts v order rooms starts) i ≤ endIn v plan i
   pub end-no-higher : end ≤ endOfPlan v plan

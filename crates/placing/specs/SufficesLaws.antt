@@ -1,6 +1,6 @@
 -- First fit suffices for requests: some order is as good as any plan.
 use Prim.Native.Nat.{ℕ, _≤_}
-use mathlib.Core.List.{List, []}
+use mathlib.Core.List.{List, [], _∷_}
 use mathlib.Core.Path.{_≡_, sym, ap, subst, _∙_}
 use native.Mathlib.Omega.{arith}
 use lib.ListN.{length}
@@ -25,24 +25,23 @@ use Rattle.meeting.specs.PlanLaws.{slots-to-ends}
 use Rattle.meeting.specs.PlanEndLaws.{plan-end-is}
 use Rattle.placing.specs.FirstFit.{checkFirstFit, fitted, fittedReply, placedAfter, firstFitReply, placedTold}
 use Rattle.placing.specs.FirstFitLaws.{all-pass}
-use Rattle.placing.specs.OrderLaws.{arranged-passes}
 use Rattle.placing.specs.PromiseLaws.{start-is}
 use Rattle.placing.specs.Suffices.{OrderByStart, endIn, AsLowAs}
 
--- a sound request's first fit in an order by a plan's starts, with room for the starts, does as well as the plan
+-- a sound request's first fit in an order by a plan's starts, with room in both buffers, does as well as the plan
 pub suffices-promise : (q : Request) → Whole q → check (view q) ≡ checked.Sound → (plan : List ℕ) → AllowedPlan (view q) plan →
-    (order : List ℕ) → OrderByStart (view q) plan order → (starts : List ℕ) → view q .demandCount ≤ length starts →
-    AsLowAs (view q) plan order starts
+    (order : List ℕ) → OrderByStart (view q) plan order → (starts blockers : List ℕ) → view q .demandCount ≤ length starts →
+    view q .demandCount ≤ length blockers → AsLowAs (view q) plan order (length starts ∷ length blockers ∷ []) starts
 unfolding firstFitReply fitted fittedReply placedAfter placedTold endIn
-suffices-promise q whole passes plan allowed order by starts room =
+suffices-promise q whole passes plan allowed order by starts blockers room blockers-room =
     record {
       end = top P (fill P [] order);
       not-refused =
-          ap (λ (c : Checked). placedTold (placedAfter c (fittedReply P (fitted v order)))) tested
-          ∙ ap (λ (out : Fitted). placedTold (fittedReply P out)) (low .not-refused);
+          ap (λ (c : Checked). placedTold (placedAfter c (fittedReply v (fitted v order)))) tested
+          ∙ ap (λ (out : Fitted). placedTold (fittedReply v out)) (low .not-refused);
       none-higher =
           λ i h.
-          let same = start-is v order starts tested (fill P [] order) (low .not-refused) i h in
+          let same = start-is v order rooms tested starts room (fill P [] order) (low .not-refused) i h in
           let no-later = low .none-later i (listing-mem (v .demandCount) i h) in
           omega (arith, same, no-later);
       end-no-higher = subst (λ (e : ℕ). top P (fill P [] order) ≤ e) (sym (plan-end-is v plan (checked-limits q whole passes .demands-there))) (low .top-no-higher);
@@ -57,8 +56,11 @@ suffices-promise q whole passes plan allowed order by starts room =
     sound : SoundRequest v
     sound = check-sound v (whole-counted q whole) passes
 
-    tested : checkFirstFit v order starts ≡ checked.Sound
-    tested = all-pass v order starts passes (arranged-passes (v .demandCount) order (by .an-order)) room
+    rooms : List ℕ
+    rooms = length starts ∷ length blockers ∷ []
+
+    tested : checkFirstFit v order rooms ≡ checked.Sound
+    tested = all-pass v passes order (by .an-order) (length starts) (length blockers) room blockers-room
 
     low : AsLow P (v .band .slots) [] (listing (v .demandCount)) (startAt plan) order
     low =

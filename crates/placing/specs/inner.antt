@@ -1,3 +1,2 @@
 -- Definitions that no promise speaks of: what loops keep, and what proofs pass on.
-pub mod Near
 pub mod Placement

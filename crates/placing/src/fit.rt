@@ -1,79 +1,76 @@
 // First fit along an order that is one.
 use crate::PlacedReply;
-use crate::scan::Spot;
-use crate::scan::higher;
-use crate::scan::lowest_within;
-use crate::scan::slot_if;
+use board::Placement;
+use board::Spot;
+use board::place_one;
 use meeting::meeting_row;
 use refusal::Refusal;
 use request::Request;
 ghost use mathlib.Core.Path.{_≡_};
-ghost use lib.ListN.{getD};
+ghost use Prim.Native.Nat.{max};
+ghost use Rattle.board.specs.Board.{placedOne};
+ghost use Rattle.meeting.specs.Row.{meetingRow};
 ghost use Rattle.request.specs.View.{view};
 ghost use Rattle.request.specs.Sharing.{problemOf};
 ghost use Rattle.placing.specs.FirstFit.{fitted, fittedReply};
-ghost use Rattle.placing.specs.inner.Placement.{NearAsked, NearEnds, BesideAsked, spotBeside, orderRows, PlaceAsked, StartsGiven};
+ghost use Rattle.placing.specs.inner.Placement.{BesideAsked, PlaceAsked, PlanKept};
 
-// Where the demands placed so far end, the guard included, if they meet the one to place, else 0. The row says who meets it.
-fn near_ends(row: &[bool; 200], order: &[u16], high: &[u16; 200], placed: usize) -> [u16; 200]
-    requires { ⌜ NearAsked (now order) placed ⌝ }
-    ensures { λ r. ⌜ NearEnds (now (row .entry)) (now (order .entry)) (now (high .entry)) placed r ⌝ }
+// The higher of two slots.
+fn higher(a: u16, b: u16) -> u16
+    ensures { λ r. ⌜ r ≡ max a b ⌝ }
 {
-    let mut near = [0u16; 200];
-    let mut m: usize = 0;
-    while m < placed {
-        let other = order[m] as usize;
-        near[m] = slot_if(row[other], high[m]);
-        m += 1;
-    }
-    near
+    if a < b { b } else { a }
 }
 
-// The lowest start of the demand at index k of an order beside those before it, if it ends inside the band. `low` and `high`
-// hold where those start and where they end, the guard included.
-fn start_beside(
+// Demand i placed beside those that stand: they start and end by listing position, and one that ends at 0 does not stand yet.
+fn place_beside(request: Request, starts: &[u16; 200], ends: &[u16; 200], i: usize) -> Placement
+    requires { ⌜ BesideAsked (view request) i ⌝ }
+    ensures { λ r. ⌜ r ≡ placedOne (meetingRow (view request .demands) i) (now (starts .entry)) (now (ends .entry))
+        (view request .demandCount) (problemOf (view request) .width i) (view request .band .guard) (view request .band .slots) ⌝ }
+{
+    let count = request.demand_count;
+    let demand = request.demands[i];
+    let row = meeting_row(request.demands, count, i);
+    place_one(
+        &row,
+        starts,
+        ends,
+        count,
+        demand.width,
+        request.band.guard as u16,
+        request.band.slots,
+    )
+}
+
+// Places the demands of an order one by one, each at its lowest start beside those before it; `at` gets the starts and `by` the
+// blockers, by listing position.
+pub(crate) fn place_all(
     request: Request,
     order: &[u16],
-    low: &[u16; 200],
-    high: &[u16; 200],
-    k: usize,
-) -> Spot
-    requires { ⌜ BesideAsked (view request) (now order) (now low) (now high) k ⌝ }
-    ensures { λ r. ⌜ r ≡ spotBeside (view request) (orderRows k (now (order .entry)) (now (low .entry))) (getD (now (order .entry)) k 0) ⌝ }
+    at: &mut [u16; 200],
+    by: &mut [u16; 200],
+) -> PlacedReply
+    requires { ⌜ PlaceAsked (view request) (now order) (now at) (now by) ⌝ }
+    ensures reply { λ r. ⌜ r ≡ fittedReply (view request) (fitted (view request) (now (order .entry))) ⌝ }
+    ensures kept { λ _. ⌜ PlanKept (view request) (fitted (view request) (now (order .entry))) (now (at .exit)) (now (by .exit)) ⌝ }
 {
-    let i = order[k] as usize;
-    let slots = request.band.slots;
-    let guard = request.band.guard as u16;
-    let demand = request.demands[i];
-    let width = demand.width;
-    let row = meeting_row(request.demands, request.demand_count, i);
-    let near = near_ends(&row, order, high, k);
-    lowest_within(&near, low, k, width + guard, slots - width)
-}
-
-// Places the demands of an order one by one, each at its lowest start beside those before it; `at` gets the starts by listing
-// position.
-pub(crate) fn place_all(request: Request, order: &[u16], at: &mut [u16; 200]) -> PlacedReply
-    requires { ⌜ PlaceAsked (view request) (now order) (now at) ⌝ }
-    ensures { λ r. ⌜ r ≡ fittedReply (problemOf (view request)) (fitted (view request) (now (order .entry))) ⌝ }
-    ensures { λ r. ⌜ StartsGiven (fitted (view request) (now (order .entry))) (now (at .exit)) ⌝ }
-{
-    let guard = request.band.guard as u16;
-    let mut low = [0u16; 200];
-    let mut high = [0u16; 200];
+    let mut ends = [0u16; 200];
     let mut end: u16 = 0;
     let mut k: usize = 0;
     while k < order.len() {
         let i = order[k] as usize;
-        let spot = start_beside(request, order, &low, &high, k);
+        let placement = place_beside(request, at, &ends, i);
+        let in_the_way = placement.blocker;
+        let blocker = in_the_way.entry();
+        let spot = placement.spot;
         let Spot::At(start) = spot else {
-            return PlacedReply::Refused(Refusal::NoStart(i));
+            return PlacedReply::Blocked(Refusal::NoStart(i), blocker);
         };
         let demand = request.demands[i];
         let width = demand.width;
         at[i] = start;
-        low[k] = start;
-        high[k] = start + width + guard;
+        by[i] = blocker;
+        ends[i] = start + width;
         end = higher(end, start + width);
         k += 1;
     }

@@ -1,6 +1,6 @@
 -- A plan is accepted exactly when it is allowed; one that ends at the bound is then the best there is.
 use Prim.Native.Nat.{ℕ, _≤_}
-use mathlib.Core.List.{List, [], _∷_}
+use mathlib.Core.List.{List, [], _∷_, List·Memᴰ·head}
 use mathlib.Core.Path.{_≡_, refl, sym, ap, subst, _∙_}
 use native.Mathlib.Omega.{arith}
 use Rattle.refusal.specs.declared.Refusal.{Refusal}
@@ -122,22 +122,23 @@ module _ (r : Request) (whole : Whole r) (starts : List ℕ) where
       bound-certifies (view r) (whole-counted r whole) starts
       (accepted-told-whole (startsReply (view r) starts) (Accepted (boundOf (view r))) h)
 
--- first fit's plan is accepted, with its end
-pub first-fit-accepted : (r : Request) → Whole r → (order starts : List ℕ) (end : ℕ) →
-    placedTold (firstFitReply (view r) order starts) ≡ (0, end ∷ []) →
-    acceptedTold (startsReply (view r) (firstFitStarts (view r) order starts)) ≡ (0, end ∷ [])
+-- first fit's plan is accepted, with its end, whatever the two buffers held
+pub first-fit-accepted : (r : Request) → Whole r → (order starts blockers : List ℕ) (end : ℕ) →
+    placedTold (firstFitReply (view r) order (length starts ∷ length blockers ∷ [])) ≡ (0, end ∷ []) →
+    acceptedTold (startsReply (view r) (firstFitStarts (view r) order (length starts ∷ length blockers ∷ []) starts)) ≡ (0, end ∷ [])
 unfolding firstFitReply placedTold acceptedTold
-first-fit-accepted r whole order starts end h =
-    let v = view r in
+first-fit-accepted r whole order starts blockers end h =
+    let v : View = view r in
+    let rooms : List ℕ = length starts ∷ length blockers ∷ [] in
     let tested =
-    end-given (checkFirstFit v order starts) (fittedReply (problemOf v) (fitted v order)) end
-    (placed-told-whole (firstFitReply v order starts) (Placed end) h) .0 in
-    let plan = first-fit-promise r whole order starts end h in
+    end-given (checkFirstFit v order rooms) (fittedReply v (fitted v order)) end
+    (placed-told-whole (firstFitReply v order rooms) (Placed end) h) .0 in
+    let plan = first-fit-promise r whole order starts blockers end h in
     ap acceptedTold
-    (allowed-accepted v (whole-counted r whole) (firstFitStarts v order starts)
+    (allowed-accepted v (whole-counted r whole) (firstFitStarts v order rooms starts)
     (record {
-      request-sound = check-sound v (whole-counted r whole) (request-sound v order starts tested);
-      enough-starts = omega (arith, plan .as-long, room-enough v order starts tested);
+      request-sound = check-sound v (whole-counted r whole) (request-sound v order rooms tested);
+      enough-starts = omega (arith, plan .starts-written .as-long, room-enough v order rooms tested (length starts) (List·Memᴰ·head refl));
       plan-allowed = plan .allowed;
     })
     ∙ ap Accepted (sym (plan .ends)))

@@ -5,6 +5,7 @@ mod check_request;
 mod check_starts;
 mod first_fit;
 mod frequency;
+mod place_one;
 mod read_plan;
 mod read_request;
 mod search_orders;
@@ -25,6 +26,7 @@ pub(crate) fn make_call(op: u8, body: &[u8]) -> bool {
         0x09 => write_plan::answer(body),
         0x0A => frequency::answer(body),
         0x0B => block::answer(body),
+        0x20 => place_one::answer(body),
         _ => false,
     }
 }

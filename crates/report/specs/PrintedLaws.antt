@@ -1,6 +1,6 @@
 -- Where there is a plan, a row is printed for each demand: none is left out.
 use Prim.Native.Nat.{ℕ, zero, suc, _+_, _≤_, _<_}
-use mathlib.Core.List.{List, [], _++_}
+use mathlib.Core.List.{List, [], _∷_, _++_}
 use mathlib.Core.Logic.{_⊎_, ⊎-elim}
 use mathlib.Core.Path.{_≡_, ap, ap₂, subst, _∙_}
 use native.Mathlib.Omega.{arith}
@@ -30,9 +30,9 @@ use Rattle.search.specs.declared.Outcome.the-variants.{Finished, Unfinished}
 use Rattle.search.specs.declared.Answer.{Answer}
 use Rattle.search.specs.declared.SearchReply.{SearchReply}
 use Rattle.search.specs.declared.SearchReply.the-variants as reply
-use Rattle.search.specs.Reply.{searched, checkSearch, searchReply, startsAfter, orderAfter}
+use Rattle.search.specs.Reply.{roomsOf, searched, checkSearch, searchReply, buffersAfter}
 use Rattle.search.specs.ReplyLaws.{passed-searchable}
-use Rattle.search.specs.Demand3.{PlanShown, Promised}
+use Rattle.search.specs.Demand3.{PlanShown, Promised, fronts}
 use Rattle.search.specs.Demand3Laws.{answer-given, demand3}
 use Rattle.report.specs.Rows.{rows}
 use Rattle.report.specs.RowsLaws.{rows-turn, row-stands}
@@ -64,47 +64,47 @@ enough K l e =
     (leb-true K (length l))
     (λ f. let short = leb-false K (length l) f in omega (arith, ap length (take-all K l (omega arith)), e))
 
-module _ (q : Request) (whole : Whole q) (a : Answer) (answered : searchReply (view q) 1000000 20 20 ≡ reply.Answered a) where
+module _ (q : Request) (whole : Whole q) (a : Answer) (answered : searchReply (view q) 1000000 (20 ∷ 20 ∷ 20 ∷ []) ≡ reply.Answered a) where
   abbrev v : View
   v = view q
 
   abbrev after : List ℕ
-  after = startsAfter v 1000000 twentyZeros twentyZeros
+  after = buffersAfter v 1000000 twentyZeros .starts
 
   passes : check v ≡ checked.Sound
   unfolding searchReply
-  passes = passed-searchable v 20 20 (answer-given (checkSearch v 20 20) (searched v 1000000) a answered .0) .sound
+  passes = passed-searchable v (20 ∷ 20 ∷ 20 ∷ []) (answer-given (checkSearch v (20 ∷ 20 ∷ 20 ∷ [])) (searched v 1000000) a answered .0) .sound
 
   -- the rows of a plan shown
-  shown-rows : (e : ℕ) (order : List ℕ) → PlanShown v e (take (v .demandCount) after) order →
+  shown-rows : (e : ℕ) → PlanShown v e (fronts (v .demandCount) (buffersAfter v 1000000 twentyZeros)) →
       rows (v .band) (v .demands) after ≡ rowsAt v after (listing (v .demandCount))
-  unfolding problemOf startAt startsOf
-  shown-rows e order shown =
+  unfolding problemOf startAt startsOf fronts
+  shown-rows e shown =
       let K = v .demandCount in
       let sound = check-sound v (whole-counted q whole) passes in
       let limits = checked-limits q whole passes in
       let allowed = slots-to-ends v (take K after) sound (limits .routes-there) (shown .allowed) in
       let full : length (take K after) ≡ K =
-      ap length (shown .by-first-fit) ∙ length-map (listing K) (startIn (fill (problemOf v) [] order)) ∙ listing-length K in
+      ap length (shown .by-first-fit) ∙ length-map (listing K) (startIn (fill (problemOf v) [] (take K (buffersAfter v 1000000 twentyZeros .order)))) ∙ listing-length K in
       all-rows v after sound (limits .demands-there) (enough K after full)
       (λ k h. omega (arith, allowed .within k (listing-mem K k h), end-is (problemOf v) k (getD (take K after) k 0), getD-take K after k 0 h))
 
   -- with a plan the page is the answer's line and a row for each demand, in listing order
   pub plan-printed : (e : ℕ) → (a .outcome ≡ Finished e) ⊎ (a .outcome ≡ Unfinished e) →
       requestText v ≡ answerText a ++ rowsAt v after (listing (v .demandCount))
-  unfolding requestText replyText planText Promised twentyZeros
+  unfolding requestText replyText planText Promised twentyZeros roomsOf
   plan-printed e outcome =
       let K = v .demandCount in
-      let kept = demand3 q whole 1000000 twentyZeros twentyZeros a answered in
-      let order = take K (orderAfter v 1000000 twentyZeros twentyZeros) in
+      let kept = demand3 q whole 1000000 twentyZeros a answered in
+      let shown = fronts K (buffersAfter v 1000000 twentyZeros) in
       ap (replyText v after) answered
       ∙ ⊎-elim
       (λ (is : a .outcome ≡ Finished e).
       ap (λ (o : Outcome). answerText a ++ planText o (rows (v .band) (v .demands) after)) is
       ∙ ap (λ (text : List ℕ). answerText a ++ text)
-      (shown-rows e order (subst (Promised v 1000000 a (take K after) order) is (kept .promised) .shown)))
+      (shown-rows e (subst (Promised v 1000000 a shown) is (kept .promised) .shown)))
       (λ (is : a .outcome ≡ Unfinished e).
       ap (λ (o : Outcome). answerText a ++ planText o (rows (v .band) (v .demands) after)) is
       ∙ ap (λ (text : List ℕ). answerText a ++ text)
-      (shown-rows e order (subst (Promised v 1000000 a (take K after) order) is (kept .promised) .shown)))
+      (shown-rows e (subst (Promised v 1000000 a shown) is (kept .promised) .shown)))
       outcome

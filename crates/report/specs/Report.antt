@@ -1,6 +1,6 @@
 -- What is printed for a request file.
 use Prim.Native.Nat.{ℕ}
-use mathlib.Core.List.{List, [], _++_}
+use mathlib.Core.List.{List, [], _∷_, _++_}
 use lib.ListN.{replicate}
 use Rattle.refusal.specs.declared.Refusal.{Refusal}
 use Rattle.refusal.specs.Refusal.{numberOf, placeOf}
@@ -14,7 +14,7 @@ use Rattle.search.specs.declared.Outcome.the-variants.{Finished, NothingFits, U
 use Rattle.search.specs.declared.Answer.{Answer}
 use Rattle.search.specs.declared.SearchReply.{SearchReply}
 use Rattle.search.specs.declared.SearchReply.the-variants as reply
-use Rattle.search.specs.Reply.{outcomeEnd, searchReply, startsAfter}
+use Rattle.search.specs.Reply.{Buffers, buffersOf, outcomeEnd, searchReply, buffersAfter}
 use Rattle.report.specs.Lines.{finished-word, nofit-word, unfinished-word, answerLine, refusedLine}
 use Rattle.report.specs.Rows.{rows}
 
@@ -47,12 +47,12 @@ replyText v starts (reply.Refused why) = refusalText why
 replyText v starts (reply.Answered a) = answerText a ++ planText (a .outcome) (rows (v .band) (v .demands) starts)
 
 -- the buffers that the program lends to the search: twenty zeros each
-unfoldable pub twentyZeros : List ℕ
-twentyZeros = replicate 20 0
+unfoldable pub twentyZeros : Buffers
+twentyZeros = buffersOf (replicate 20 0) (replicate 20 0) (replicate 20 0)
 
 -- a request: the reply to its search with a limit of 1,000,000 steps
 unfoldable pub requestText : View → List ℕ
-requestText v = replyText v (startsAfter v 1000000 twentyZeros twentyZeros) (searchReply v 1000000 20 20)
+requestText v = replyText v (buffersAfter v 1000000 twentyZeros .starts) (searchReply v 1000000 (20 ∷ 20 ∷ 20 ∷ []))
 
 -- what was read: the refusal, or the request's text
 unfoldable pub readText : Checked → List ℕ → List ℕ

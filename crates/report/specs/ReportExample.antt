@@ -11,7 +11,7 @@ use Rattle.reading.specs.Reading.{readFile}
 use Rattle.reading.specs.FilePacking.{packReading}
 use Rattle.request.specs.Sharing.{problemOf}
 use Rattle.meeting.specs.Bound.{boundOf}
-use Rattle.search.specs.Reply.{outcomeEnd, searchReply, startsAfter}
+use Rattle.search.specs.Reply.{outcomeEnd, searchReply, buffersAfter}
 use Rattle.report.specs.Text.{decimal, decimalSigned}
 use Rattle.report.specs.Lines.{finished-word, end-name, bound-name, steps-name, reached-name, ruled-name, space, newline, named, namedSigned, answerLine, rowLine}
 use Rattle.report.specs.Rows.{centredRow, demandRow, rows}
@@ -44,5 +44,5 @@ fourth = 51 ∷ 48 ∷ 32 ∷ 48 ∷ 32 ∷ 51 ∷ 32 ∷ 45 ∷ 50 ∷ 56 ∷ 4
 
 -- what is printed for R, to the byte
 pub R-printed : reportText R ≡ first ++ (second ++ (third ++ fourth))
-unfolding reportText readText requestText replyText twentyZeros answerText wordOf outcomeEnd planText rows demandRow centredRow answerLine rowLine named namedSigned decimal decimalSigned finished-word end-name bound-name steps-name reached-name ruled-name space newline readFile packReading view searchReply startsAfter frequencyReply theory.search boundOf listing problem.top problem.place problem.lowest problem.past problemOf problem.fits problem.startIn
+unfolding reportText readText requestText replyText twentyZeros answerText wordOf outcomeEnd planText rows demandRow centredRow answerLine rowLine named namedSigned decimal decimalSigned finished-word end-name bound-name steps-name reached-name ruled-name space newline readFile packReading view searchReply buffersAfter frequencyReply theory.search boundOf listing problem.top problem.place problem.lowest problem.past problemOf problem.fits problem.startIn
 R-printed = refl

@@ -1,6 +1,6 @@
 -- What is printed, case by case.
 use Prim.Native.Nat.{ℕ, _≤_}
-use mathlib.Core.List.{List, [], _++_, append-nil}
+use mathlib.Core.List.{List, [], _∷_, _++_, append-nil}
 use mathlib.Core.Path.{_≡_, refl, ap, sym, _∙_}
 use native.Mathlib.Omega.{arith}
 use Rattle.theory.specs.Search as theory
@@ -16,7 +16,7 @@ use Rattle.search.specs.declared.Outcome.{Outcome}
 use Rattle.search.specs.declared.Answer.{Answer}
 use Rattle.search.specs.declared.SearchReply.{SearchReply}
 use Rattle.search.specs.declared.SearchReply.the-variants as reply
-use Rattle.search.specs.Reply.{outcomeEnd, checkSearch, replyTo, searched, searchReply, startsAfter}
+use Rattle.search.specs.Reply.{outcomeEnd, checkSearch, replyTo, searched, searchReply, buffersAfter}
 use Rattle.search.specs.ReplyLaws.{passed-searchable}
 use Rattle.report.specs.declared.Page.{Page}
 use Rattle.report.specs.Text.{appended, pageOf}
@@ -51,26 +51,25 @@ answered-sound checked.Sound found a h = refl
 answered-sound (checked.Refused why) found a h = absurd (let no : _≡_ {A = ℕ} 0 1 = cc in omega arith)
 
 -- an answer is of at most 20 demands
-pub answered-few : (v : View) (limit starts order : ℕ) (a : Answer) → searchReply v limit starts order ≡ reply.Answered a → v .demandCount ≤ 20
+pub answered-few : (v : View) (limit : ℕ) (rooms : List ℕ) (a : Answer) → searchReply v limit rooms ≡ reply.Answered a → v .demandCount ≤ 20
 unfolding searchReply
-answered-few v limit starts order a h =
-    passed-searchable v starts order (answered-sound (checkSearch v starts order) (searched v limit) a h) .few
+answered-few v limit rooms a h = passed-searchable v rooms (answered-sound (checkSearch v rooms) (searched v limit) a h) .few
 
 -- a request that is answered
 pub request-answered : {r : Page} (q : Request) (starts : List ℕ) (a : Answer) →
-    searchReply (view q) 1000000 20 20 ≡ reply.Answered a → starts ≡ startsAfter (view q) 1000000 twentyZeros twentyZeros →
+    searchReply (view q) 1000000 (20 ∷ 20 ∷ 20 ∷ []) ≡ reply.Answered a → starts ≡ buffersAfter (view q) 1000000 twentyZeros .starts →
     r ≡ pageOf (answerText a ++ planText (a .outcome) (rows (q .band) (view q .demands) starts)) → r ≡ pageOf (requestText (view q))
 unfolding requestText replyText view
 request-answered q starts a answered kept h =
     h ∙ ap (λ (s : List ℕ). pageOf (replyText (view q) s (reply.Answered a))) kept
-    ∙ ap (λ (told : SearchReply). pageOf (replyText (view q) (startsAfter (view q) 1000000 twentyZeros twentyZeros) told)) (sym answered)
+    ∙ ap (λ (told : SearchReply). pageOf (replyText (view q) (buffersAfter (view q) 1000000 twentyZeros .starts) told)) (sym answered)
 
 -- a request that is refused
 pub request-refused : {r : Page} (q : Request) (why : Refusal) →
-    searchReply (view q) 1000000 20 20 ≡ reply.Refused why → r ≡ pageOf (refusalText why) → r ≡ pageOf (requestText (view q))
+    searchReply (view q) 1000000 (20 ∷ 20 ∷ 20 ∷ []) ≡ reply.Refused why → r ≡ pageOf (refusalText why) → r ≡ pageOf (requestText (view q))
 unfolding requestText replyText
 request-refused q why refused h =
-    h ∙ ap (λ (told : SearchReply). pageOf (replyText (view q) (startsAfter (view q) 1000000 twentyZeros twentyZeros) told)) (sym refused)
+    h ∙ ap (λ (told : SearchReply). pageOf (replyText (view q) (buffersAfter (view q) 1000000 twentyZeros .starts) told)) (sym refused)
 
 -- ---- the file
 

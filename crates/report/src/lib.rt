@@ -267,7 +267,8 @@ fn request_page(request: Request) -> Page
 {
     let mut starts = [0u16; 20];
     let mut order = [0u16; 20];
-    let reply = search(request, 1_000_000, &mut starts, &mut order);
+    let mut blockers = [0u16; 20];
+    let reply = search(request, 1_000_000, &mut starts, &mut order, &mut blockers);
     match reply {
         SearchReply::Answered(answer) => answered_page(answer, request, starts),
         SearchReply::Refused(why) => refused_page(why),

@@ -5,8 +5,8 @@ use mathlib.Core.List.{List, [], _∷_, _++_, append-assoc, append-nil}
 use mathlib.Core.Logic.{_≢_}
 use mathlib.Core.Path.{_≡_, refl, sym, _∙_, ap}
 use native.Mathlib.Omega.{arith}
-use borrow.Author.Tests.{le-leb, eqb-false, ne-eqb, ltb-false}
-use lib.ListN.{length, take, getD}
+use borrow.Author.Tests.{le-leb, eqb-false, ne-eqb, ltb-true, ltb-false}
+use lib.ListN.{length, take, getD, List·getD-eq-default}
 use lib.Seq.{length-take-le}
 use lib.Dec.{leb, ltb, eqb}
 use Rattle.refusal.specs.declared.Refusal.{Refusal}
@@ -16,13 +16,13 @@ use Rattle.request.specs.declared.Link.{Link}
 use Rattle.request.specs.declared.Request.{Request}
 use Rattle.request.specs.declared.Checked.{Checked}
 use Rattle.request.specs.declared.Checked.the-variants.{Sound, Refused}
-use Rattle.request.specs.View.{DemandView, View, view, viewDemand, linkAt, demandAt, noEntry, idents}
+use Rattle.request.specs.View.{DemandView, View, view, viewDemand, linkAt, demandAt, noEntry, noDemand, idents}
 use Rattle.request.specs.Check.{then, has, soundRoute, allowedHops, checkBand, checkSomeLink, checkLinks, checkLinkCount, checkDemand, checkDemands, checkDemandCount, check}
 use Rattle.request.specs.Sound.{SoundDemand, SoundRequest}
 use Rattle.request.specs.inner.Route.{RouteHolds}
 use Rattle.request.specs.inner.Passes.{Passes}
 use Rattle.request.specs.Whole.{Whole, Counted}
-use Rattle.theory.specs.TestLaws.{and-both}
+use Rattle.theory.specs.TestLaws.{by-test, and-both}
 use Rattle.request.specs.ViewLaws.{links-shown, demands-shown, demand-shown, idents-length, ident-at}
 use Rattle.request.specs.RouteLaws.{none-early, early-none, sound-holds, holds-sound}
 use Rattle.request.specs.CheckLaws.{then-sound, first-sound, next-sound, band-passes, some-link, few-links, links-counted, few-demands, width-allowed, hops-allowed, demand-passes}
@@ -202,6 +202,19 @@ check-sound v counted sound =
           passes-sound (v .band .slots) (v .linkCount) (v .links) (take k (idents (v .demands))) (demandAt (v .demands) k) all
           (counted .routes-counted k (omega arith)) (passes k (omega arith));
     }
+
+-- no demand of a request that the test finds sound is wider than the band
+pub width-inside : (v : View) → check v ≡ Sound → (k : ℕ) → demandAt (v .demands) k .width ≤ v .band .slots
+unfolding check demandAt
+width-inside v sound k =
+    let each =
+    each-passes (checkBand (v .band)) (checkSomeLink (v .linkCount)) (checkLinks 0 (v .links)) (checkLinkCount (v .linkCount))
+    (checkDemands (v .band .slots) (v .links) [] 0 (v .demands)) (checkDemandCount (v .demandCount)) sound in
+    by-test (ltb k (length (v .demands)))
+    (λ t.
+    let pass = demands-each (v .band .slots) (v .links) [] 0 (v .demands) (each .4) k (ltb-true k (length (v .demands)) t) in
+    width-allowed (v .band .slots) (demandAt (v .demands) k .width) (pass .width-allowed) .1)
+    (λ f. rw (List·getD-eq-default (v .demands) noDemand (ltb-false k (length (v .demands)) f)) (omega arith))
 
 -- the test finds a sound request sound
 pub sound-check : (v : View) → Counted v → SoundRequest v → check v ≡ Sound

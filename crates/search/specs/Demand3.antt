@@ -14,12 +14,14 @@ use Rattle.theory.specs.Search as theory
 use Rattle.request.specs.View.{View}
 use Rattle.request.specs.Sharing.{problemOf}
 use Rattle.meeting.specs.Bound.{boundOf}
-use Rattle.meeting.specs.Plan.{AllowedPlan, endOfPlan, startsOf}
-use Rattle.placing.specs.FirstFit.{firstFitReply, firstFitStarts}
+use Rattle.meeting.specs.Plan.{AllowedPlan, endOfPlan, startAt, startsOf}
+use Rattle.placing.specs.FirstFit.{blockersOf, firstFitReply, firstFitStarts, firstFitBlockers}
+use Rattle.placing.specs.LowestFree.{EachBlocked}
 use Rattle.placing.specs.declared.PlacedReply.the-variants as placed-reply
 use Rattle.search.specs.declared.Outcome.{Outcome}
 use Rattle.search.specs.declared.Outcome.the-variants.{Finished, NothingFits, Unfinished, UnfinishedEmpty}
 use Rattle.search.specs.declared.Answer.{Answer}
+use Rattle.search.specs.Reply.{Buffers}
 
 -- an order of a request lists each listing position once
 unfoldable pub OrderOf : View → List ℕ → Type 0
@@ -29,18 +31,23 @@ OrderOf v order = Arrange order (listing (v .demandCount))
 unfoldable pub endInOrder : View → List ℕ → ℕ
 endInOrder v order = top (problemOf v) (fill (problemOf v) [] order)
 
--- the plan shown: it is allowed and ends at e inside the band, and it is what first fit gives in the order shown
-pub record PlanShown (v : View) (e : ℕ) (starts order : List ℕ) : Type 0 where
-  pub allowed : AllowedPlan v starts
-  pub ends : endOfPlan v starts ≡ e
+-- the plan shown: it is allowed and ends at e inside the band; it is what first fit gives in the order shown, blockers included, and so
+-- each demand is told who kept it from starting lower
+pub record PlanShown (v : View) (e : ℕ) (shown : Buffers) : Type 0 where
+  pub allowed : AllowedPlan v (shown .starts)
+  pub ends : endOfPlan v (shown .starts) ≡ e
   pub in-band : e ≤ v .band .slots
-  pub an-order : OrderOf v order
-  pub by-first-fit : starts ≡ startsOf (v .demandCount) (fill (problemOf v) [] order)
+  pub an-order : OrderOf v (shown .order)
+  pub by-first-fit : shown .starts ≡ startsOf (v .demandCount) (fill (problemOf v) [] (shown .order))
+  pub its-blockers : shown .blockers ≡ blockersOf (problemOf v) (v .demandCount) (fill (problemOf v) [] (shown .order))
+  pub each-blocked : EachBlocked v (startAt (shown .starts)) (startAt (shown .blockers)) (shown .order)
 
--- the call of first fit in the order shown gives the plan shown, whatever buffer with room it is lent: its end, and its starts
-pub record FirstFitShows (v : View) (e : ℕ) (starts order buffer : List ℕ) : Type 0 where
-  pub placed : firstFitReply v order buffer ≡ placed-reply.Placed e
-  pub same-starts : take (v .demandCount) (firstFitStarts v order buffer) ≡ starts
+-- the call of first fit in the order shown gives the plan shown, whatever buffers with room it is lent: its end, its starts and its
+-- blockers
+pub record FirstFitShows (v : View) (e : ℕ) (shown : Buffers) (starts blockers : List ℕ) : Type 0 where
+  pub placed : firstFitReply v (shown .order) (length starts ∷ length blockers ∷ []) ≡ placed-reply.Placed e
+  pub same-starts : take (v .demandCount) (firstFitStarts v (shown .order) (length starts ∷ length blockers ∷ []) starts) ≡ shown .starts
+  pub same-blockers : take (v .demandCount) (firstFitBlockers v (shown .order) (length starts ∷ length blockers ∷ []) blockers) ≡ shown .blockers
 
 -- no allowed plan whatsoever, first-fit or otherwise, has a lower end
 unfoldable pub NoneLower : View → ℕ → Type 0
@@ -55,12 +62,12 @@ pub record Rank (v : View) (order : List ℕ) (before : ℕ) : Type 0 where
 
 -- finished: this is the best there is. The order shown is the first in listing order that reaches the end. Where the end meets the
 -- bound, the orders reached or ruled out are those up to the order shown; else they are all K!
-pub record BestThereIs (v : View) (a : Answer) (e : ℕ) (starts order : List ℕ) : Type 0 where
-  pub shown : PlanShown v e starts order
+pub record BestThereIs (v : View) (a : Answer) (e : ℕ) (plan : Buffers) : Type 0 where
+  pub shown : PlanShown v e plan
   pub none-lower : NoneLower v e
-  pub first : (other : List ℕ) → OrderOf v other → Lower other order → e < endInOrder v other
+  pub first : (other : List ℕ) → OrderOf v other → Lower other (plan .order) → e < endInOrder v other
   pub before : ℕ
-  pub rank : Rank v order before
+  pub rank : Rank v (plan .order) before
   pub sum-at-bound : e ≡ boundOf v → a .reached + a .ruled ≡ before + 1
   pub sum-above-bound : e ≢ boundOf v → a .reached + a .ruled ≡ factorial (v .demandCount)
 
@@ -78,13 +85,13 @@ pub record StepsUsedUp (v : View) (limit : ℕ) (a : Answer) (orders-met : List 
   pub not-all : a .reached + a .ruled < factorial (v .demandCount)
 
 -- unfinished with a plan: the best that the orders met give, and the first of its kind; its end lies above the bound and inside the band
-pub record BestSoFar (v : View) (limit : ℕ) (a : Answer) (e : ℕ) (starts order : List ℕ) : Type 0 where
+pub record BestSoFar (v : View) (limit : ℕ) (a : Answer) (e : ℕ) (plan : Buffers) : Type 0 where
   pub orders-met : List (List ℕ)
   pub stopped : StepsUsedUp v limit a orders-met
-  pub shown : PlanShown v e starts order
-  pub met-it : List·Memᴰ order orders-met
+  pub shown : PlanShown v e plan
+  pub met-it : List·Memᴰ (plan .order) orders-met
   pub best-met : (other : List ℕ) → List·Memᴰ other orders-met → e ≤ endInOrder v other
-  pub first : (other : List ℕ) → List·Memᴰ other orders-met → Lower other order → e < endInOrder v other
+  pub first : (other : List ℕ) → List·Memᴰ other orders-met → Lower other (plan .order) → e < endInOrder v other
   pub above-bound : boundOf v < e
 
 -- unfinished without a plan: none of the orders met stays inside the band
@@ -94,11 +101,15 @@ pub record NoneSoFar (v : View) (limit : ℕ) (a : Answer) : Type 0 where
   pub none-met : (other : List ℕ) → List·Memᴰ other orders-met → v .band .slots < endInOrder v other
 
 -- what each outcome promises
-unfoldable pub Promised : View → ℕ → Answer → List ℕ → List ℕ → Outcome → Type 0
-Promised v limit a starts order (Finished e) = BestThereIs v a e starts order
-Promised v limit a starts order NothingFits = NoPlanExists v a
-Promised v limit a starts order (Unfinished e) = BestSoFar v limit a e starts order
-Promised v limit a starts order UnfinishedEmpty = NoneSoFar v limit a
+unfoldable pub Promised : View → ℕ → Answer → Buffers → Outcome → Type 0
+Promised v limit a plan (Finished e) = BestThereIs v a e plan
+Promised v limit a plan NothingFits = NoPlanExists v a
+Promised v limit a plan (Unfinished e) = BestSoFar v limit a e plan
+Promised v limit a plan UnfinishedEmpty = NoneSoFar v limit a
+
+-- the first K entries of each buffer
+unfoldable pub fronts : ℕ → Buffers → Buffers
+fronts K after = record { starts = take K (after .starts); order = take K (after .order); blockers = take K (after .blockers) }
 
 -- with a plan the first K entries of a buffer are written, and those behind them stay; without one all of it stays
 unfoldable pub RestKept : ℕ → Outcome → List ℕ → List ℕ → Type 0
@@ -124,13 +135,14 @@ pub record SettlesExactly (needed limit : ℕ) (a : Answer) : Type 0 where
   pub only-there : settles (a .outcome) ≡ true → needed ≤ limit
   pub steps-are : settles (a .outcome) ≡ true → a .steps ≡ needed
 
--- an answer, and what the two lent buffers hold afterwards: its promise holds of their first K entries, which are the plan's starts and its
--- order; it settles the question unless the steps needed are more than the limit; the bound shown is the request's; no step beyond the
--- limit was taken; the rest of the buffers stays
-pub record AnswerKept (v : View) (limit : ℕ) (a : Answer) (starts order starts-after order-after : List ℕ) : Type 0 where
-  pub promised : Promised v limit a (take (v .demandCount) starts-after) (take (v .demandCount) order-after) (a .outcome)
+-- an answer, and what the lent buffers hold afterwards: its promise holds of their first K entries, which are the plan's starts, its order
+-- and its blockers; it settles the question unless the steps needed are more than the limit; the bound shown is the request's; no step
+-- beyond the limit was taken; the rest of the buffers stays
+pub record AnswerKept (v : View) (limit : ℕ) (a : Answer) (lent after : Buffers) : Type 0 where
+  pub promised : Promised v limit a (fronts (v .demandCount) after) (a .outcome)
   pub settles-exactly : SettlesExactly (stepsNeeded v) limit a
   pub bound-shown : a .bound ≡ boundOf v
   pub steps-within : a .steps ≤ limit
-  pub starts-kept : RestKept (v .demandCount) (a .outcome) starts starts-after
-  pub order-kept : RestKept (v .demandCount) (a .outcome) order order-after
+  pub starts-kept : RestKept (v .demandCount) (a .outcome) (lent .starts) (after .starts)
+  pub order-kept : RestKept (v .demandCount) (a .outcome) (lent .order) (after .order)
+  pub blockers-kept : RestKept (v .demandCount) (a .outcome) (lent .blockers) (after .blockers)

@@ -1,4 +1,4 @@
--- What the search of a request replies, and what the two lent buffers hold afterwards.
+-- What the search of a request replies, and what the three lent buffers hold afterwards.
 use Prim.Native.Nat.{ℕ}
 use mathlib.Core.Bool.{Bool, true, false}
 use mathlib.Core.List.{List, [], _∷_}
@@ -13,9 +13,10 @@ use Rattle.request.specs.declared.Checked.{Checked}
 use Rattle.request.specs.declared.Checked.the-variants.{Sound, Refused}
 use Rattle.request.specs.View.{View}
 use Rattle.request.specs.Check.{then, must, check}
-use Rattle.lent.specs.Lent.{checkRoom, over, unlessRefused}
+use Rattle.lent.specs.Lent.{checkRooms, over, unlessRefused}
 use Rattle.meeting.specs.Plan.{startsOf}
 use Rattle.request.specs.Sharing.{problemOf}
+use Rattle.placing.specs.FirstFit.{blockersOf}
 use Rattle.meeting.specs.Bound.{boundOf}
 use Rattle.search.specs.declared.Outcome.{Outcome}
 use Rattle.search.specs.declared.Outcome.the-variants.{Finished, NothingFits, Unfinished, UnfinishedEmpty}
@@ -61,16 +62,29 @@ unfolding outcomeTold
 answerTold a =
     record { outcome = outcomeTold (a .outcome); bound = a .bound; steps = a .steps; reached = a .reached; ruled = a .ruled }
 
--- after the request: 11, then 10 for the starts, then 10 for the order
-unfoldable pub checkRooms : ℕ → ℕ → ℕ → Checked
-unfolding then must checkRoom
-checkRooms K startsRoom orderRoom =
-    then (must (leb K 20) (TooManyToSearch K)) (then (checkRoom K startsRoom) (checkRoom K orderRoom))
+-- the buffers that a search is lent: for the starts, for the order and for the blockers
+pub record Buffers : Type 0 where
+  pub starts : List ℕ
+  pub order : List ℕ
+  pub blockers : List ℕ
+
+-- the three as they are lent
+abbrev pub buffersOf : List ℕ → List ℕ → List ℕ → Buffers
+buffersOf starts order blockers = record { starts = starts; order = order; blockers = blockers }
+
+-- how many entries each has room for, in the sequence in which they are tested
+unfoldable pub roomsOf : Buffers → List ℕ
+roomsOf lent = length (lent .starts) ∷ length (lent .order) ∷ length (lent .blockers) ∷ []
+
+-- after the request: 11, then 10 for each buffer
+unfoldable pub checkSizes : ℕ → List ℕ → Checked
+unfolding then must checkRooms
+checkSizes K rooms = then (must (leb K 20) (TooManyToSearch K)) (checkRooms K rooms)
 
 -- all that a search tests before its first step
-unfoldable pub checkSearch : View → ℕ → ℕ → Checked
-unfolding then check checkRooms
-checkSearch v startsRoom orderRoom = then (check v) (checkRooms (v .demandCount) startsRoom orderRoom)
+unfoldable pub checkSearch : View → List ℕ → Checked
+unfolding then check checkSizes
+checkSearch v rooms = then (check v) (checkSizes (v .demandCount) rooms)
 
 -- the reply: the refusal, or the answer
 unfoldable pub replyTo : Checked → theory.Answer → SearchReply
@@ -78,34 +92,26 @@ unfolding answerTold
 replyTo (Refused why) a = reply.Refused why
 replyTo Sound a = reply.Answered (answerTold a)
 
--- the buffer of starts after a search: with a plan its K starts, else as it was
-unfoldable pub startsKept : ℕ → Best → List ℕ → List ℕ
-unfolding startsOf over
-startsKept K none-met buffer = buffer
-startsKept K (met rows order) buffer = over (startsOf K rows) buffer
+-- the buffers after a search that was run: with a plan its starts, the order that gave it and its blockers, K entries each; else as they were
+unfoldable pub buffersKept : View → Best → Buffers → Buffers
+unfolding startsOf blockersOf over
+buffersKept v none-met lent = lent
+buffersKept v (met rows order) lent =
+    record {
+      starts = over (startsOf (v .demandCount) rows) (lent .starts);
+      order = over order (lent .order);
+      blockers = over (blockersOf (problemOf v) (v .demandCount) rows) (lent .blockers);
+    }
 
--- the buffer of the order after a search: with a plan the order that gave it, else as it was
-unfoldable pub orderKept : Best → List ℕ → List ℕ
-unfolding over
-orderKept none-met buffer = buffer
-orderKept (met rows order) buffer = over order buffer
-
--- the reply to a request, a limit, and buffers of these lengths
-unfoldable pub searchReply : View → ℕ → ℕ → ℕ → SearchReply
+-- the reply to a request, a limit, and buffers of these rooms
+unfoldable pub searchReply : View → ℕ → List ℕ → SearchReply
 unfolding checkSearch replyTo searched
-searchReply v limit startsRoom orderRoom = replyTo (checkSearch v startsRoom orderRoom) (searched v limit)
+searchReply v limit rooms = replyTo (checkSearch v rooms) (searched v limit)
 
--- what the buffer of starts holds afterwards
-unfoldable pub startsAfter : View → ℕ → List ℕ → List ℕ → List ℕ
-unfolding checkSearch searched startsKept unlessRefused
-startsAfter v limit starts order =
-    unlessRefused (checkSearch v (length starts) (length order)) starts (startsKept (v .demandCount) (searched v limit .best) starts)
-
--- what the buffer of the order holds afterwards
-unfoldable pub orderAfter : View → ℕ → List ℕ → List ℕ → List ℕ
-unfolding checkSearch searched orderKept unlessRefused
-orderAfter v limit starts order =
-    unlessRefused (checkSearch v (length starts) (length order)) order (orderKept (searched v limit .best) order)
+-- what the buffers hold afterwards
+unfoldable pub buffersAfter : View → ℕ → Buffers → Buffers
+unfolding checkSearch roomsOf searched buffersKept unlessRefused
+buffersAfter v limit lent = unlessRefused (checkSearch v (roomsOf lent)) lent (buffersKept v (searched v limit .best) lent)
 
 -- what a reply says: 0, then the outcome's number and end, the bound, the steps, the orders reached, the orders ruled out; or the number
 -- of the fault and its place

@@ -5,7 +5,7 @@ use mathlib.Core.List.{List, []}
 use mathlib.Core.Path.{_≡_, refl, sym, ap, ap₂, _∙_}
 use borrow.Author.Tests.{leb-true, lt-leb, le-leb}
 use native.Mathlib.Omega.{arith}
-use lib.ListN.{length, getD}
+use lib.ListN.{getD}
 use lib.Dec.{leb}
 use Rattle.refusal.specs.declared.Refusal.{Refusal}
 use Rattle.refusal.specs.declared.Refusal.the-variants.{TooManyToSearch}
@@ -29,49 +29,43 @@ use Rattle.search.specs.declared.Answer.{Answer}
 use Rattle.search.specs.declared.SearchReply.{SearchReply}
 use Rattle.search.specs.declared.SearchReply.the-variants as reply
 use Rattle.search.specs.inner.Told.{isSpent, isMet}
-use Rattle.search.specs.Reply.{outcomeTold, outcomeNumber, outcomeEnd, outcomeBy, answerTold, checkRooms, checkSearch, replyTo, searched, startsKept, orderKept, searchReply, startsAfter, orderAfter, answeredTold}
-use Rattle.lent.specs.Lent.{over, unlessRefused, checkRoom}
+use Rattle.search.specs.Reply.{Buffers, roomsOf, outcomeTold, outcomeNumber, outcomeEnd, outcomeBy, answerTold, checkSizes, checkSearch, replyTo, searched, buffersKept, searchReply, buffersAfter, answeredTold}
+use Rattle.lent.specs.Lent.{over, unlessRefused, checkRooms}
+use Rattle.request.specs.Sharing.{problemOf}
+use Rattle.placing.specs.FirstFit.{blockersOf}
 use Rattle.meeting.specs.Plan.{startsOf}
 use Rattle.search.specs.inner.Found.{Searchable}
 
 -- more than 20 demands
-pub rooms-many : (K a b : ℕ) → 20 < K → checkRooms K a b ≡ Refused (TooManyToSearch K)
-unfolding checkRooms then must
-rooms-many K a b h = rw (lt-leb K 20 h)
+pub sizes-many : (K : ℕ) (rooms : List ℕ) → 20 < K → checkSizes K rooms ≡ Refused (TooManyToSearch K)
+unfolding checkSizes then must
+sizes-many K rooms h = rw (lt-leb K 20 h)
 
--- at most 20: the buffer for the starts, then the one for the order
-rooms-few : (K a b : ℕ) → K ≤ 20 → checkRooms K a b ≡ then (checkRoom K a) (checkRoom K b)
-unfolding checkRooms then must
-rooms-few K a b h = rw (le-leb K 20 h)
-
--- too short a buffer for the starts
-pub rooms-starts : (K a b : ℕ) (why : Refusal) → K ≤ 20 → checkRoom K a ≡ Refused why → checkRooms K a b ≡ Refused why
-rooms-starts K a b why h short = rooms-few K a b h ∙ then-refused (checkRoom K a) (checkRoom K b) why short
-
--- too short a buffer for the order
-pub rooms-order : (K a b : ℕ) → K ≤ 20 → checkRoom K a ≡ Sound → checkRooms K a b ≡ checkRoom K b
-rooms-order K a b h long = rooms-few K a b h ∙ then-sound (checkRoom K a) (checkRoom K b) long
+-- at most 20: the buffers
+pub sizes-few : (K : ℕ) (rooms : List ℕ) → K ≤ 20 → checkSizes K rooms ≡ checkRooms K rooms
+unfolding checkSizes then must
+sizes-few K rooms h = rw (le-leb K 20 h)
 
 -- a search that passed its tests is one of a sound request of at most 20 demands
-pub passed-searchable : (v : View) (a b : ℕ) → checkSearch v a b ≡ Sound → Searchable v
-unfolding checkSearch checkRooms
-passed-searchable v a b h =
+pub passed-searchable : (v : View) (rooms : List ℕ) → checkSearch v rooms ≡ Sound → Searchable v
+unfolding checkSearch checkSizes
+passed-searchable v rooms h =
     record {
-      sound = first-sound (check v) (checkRooms (v .demandCount) a b) h;
+      sound = first-sound (check v) (checkSizes (v .demandCount) rooms) h;
       few = leb-true (v .demandCount) 20
           (test-held (leb (v .demandCount) 20) (TooManyToSearch (v .demandCount))
-          (first-sound (must (leb (v .demandCount) 20) (TooManyToSearch (v .demandCount))) (then (checkRoom (v .demandCount) a) (checkRoom (v .demandCount) b))
-          (next-sound (check v) (checkRooms (v .demandCount) a b) h)));
+          (first-sound (must (leb (v .demandCount) 20) (TooManyToSearch (v .demandCount))) (checkRooms (v .demandCount) rooms)
+          (next-sound (check v) (checkSizes (v .demandCount) rooms) h)));
     }
 
--- of a sound request the room is tested, of any other nothing
-pub tested-room : (v : View) (a b : ℕ) → check v ≡ Sound → checkRooms (v .demandCount) a b ≡ checkSearch v a b
+-- of a sound request the sizes are tested, of any other nothing
+pub tested-sizes : (v : View) (rooms : List ℕ) → check v ≡ Sound → checkSearch v rooms ≡ checkSizes (v .demandCount) rooms
 unfolding checkSearch
-tested-room v a b h = sym (then-sound (check v) (checkRooms (v .demandCount) a b) h)
+tested-sizes v rooms h = then-sound (check v) (checkSizes (v .demandCount) rooms) h
 
-pub tested-request : (v : View) (a b : ℕ) (why : Refusal) → check v ≡ Refused why → Refused why ≡ checkSearch v a b
+pub tested-request : (v : View) (rooms : List ℕ) (why : Refusal) → check v ≡ Refused why → checkSearch v rooms ≡ Refused why
 unfolding checkSearch
-tested-request v a b why h = sym (then-refused (check v) (checkRooms (v .demandCount) a b) why h)
+tested-request v rooms why h = then-refused (check v) (checkSizes (v .demandCount) rooms) why h
 
 -- the outcome of a walk goes by whether its steps were spent and whether it met a plan
 pub outcome-by : (c : Course) (b : Best) (mark : ℕ) → outcomeBy (isSpent c) (isMet b) mark ≡ outcomeTold (theory.outcomeOf c b mark)
@@ -83,61 +77,43 @@ outcome-by at-bound (met rows order) mark = refl
 outcome-by out-of-steps none-met mark = refl
 outcome-by out-of-steps (met rows order) mark = refl
 
--- a refused search: its reply, and both buffers as they were
-pub refused-reply : (v : View) (limit a b : ℕ) (why : Refusal) → checkSearch v a b ≡ Refused why → reply.Refused why ≡ searchReply v limit a b
+-- a refused search: its reply, and the buffers as they were
+pub refused-reply : (v : View) (limit : ℕ) (rooms : List ℕ) (why : Refusal) → checkSearch v rooms ≡ Refused why → reply.Refused why ≡ searchReply v limit rooms
 unfolding searchReply replyTo
-refused-reply v limit a b why h = rw h
+refused-reply v limit rooms why h = rw h
 
-pub refused-starts : (v : View) (limit : ℕ) (starts order : List ℕ) (why : Refusal) → checkSearch v (length starts) (length order) ≡ Refused why →
-    starts ≡ startsAfter v limit starts order
-unfolding startsAfter unlessRefused
-refused-starts v limit starts order why h = rw h
-
-pub refused-order : (v : View) (limit : ℕ) (starts order : List ℕ) (why : Refusal) → checkSearch v (length starts) (length order) ≡ Refused why →
-    order ≡ orderAfter v limit starts order
-unfolding orderAfter unlessRefused
-refused-order v limit starts order why h = rw h
+pub refused-buffers : (v : View) (limit : ℕ) (lent : Buffers) (why : Refusal) → checkSearch v (roomsOf lent) ≡ Refused why → lent ≡ buffersAfter v limit lent
+unfolding buffersAfter unlessRefused
+refused-buffers v limit lent why h = rw h
 
 -- a search that was run: its reply, and what the buffers hold
-pub answered-reply : (v : View) (limit a b : ℕ) → checkSearch v a b ≡ Sound → reply.Answered (answerTold (searched v limit)) ≡ searchReply v limit a b
+pub answered-reply : (v : View) (limit : ℕ) (rooms : List ℕ) → checkSearch v rooms ≡ Sound →
+    reply.Answered (answerTold (searched v limit)) ≡ searchReply v limit rooms
 unfolding searchReply replyTo
-answered-reply v limit a b h = rw h
+answered-reply v limit rooms h = rw h
 
-pub answered-starts : (v : View) (limit : ℕ) (starts order : List ℕ) → checkSearch v (length starts) (length order) ≡ Sound →
-    startsKept (v .demandCount) (searched v limit .best) starts ≡ startsAfter v limit starts order
-unfolding startsAfter unlessRefused
-answered-starts v limit starts order h = rw h
+pub answered-buffers : (v : View) (limit : ℕ) (lent : Buffers) → checkSearch v (roomsOf lent) ≡ Sound →
+    buffersKept v (searched v limit .best) lent ≡ buffersAfter v limit lent
+unfolding buffersAfter unlessRefused
+answered-buffers v limit lent h = rw h
 
-pub answered-order : (v : View) (limit : ℕ) (starts order : List ℕ) → checkSearch v (length starts) (length order) ≡ Sound →
-    orderKept (searched v limit .best) order ≡ orderAfter v limit starts order
-unfolding orderAfter unlessRefused
-answered-order v limit starts order h = rw h
-
--- with a plan the buffers get its starts and its order
-pub plan-starts : (K : ℕ) (best : Best) (entries buffer : List ℕ) → isMet best ≡ true →
-    ((rows : List Row) (order : List ℕ) → best ≡ met rows order → entries ≡ startsOf K rows) →
-    over entries buffer ≡ startsKept K best buffer
-unfolding startsKept isMet
-plan-starts K none-met entries buffer h same = absurd (false≢true h)
-plan-starts K (met rows order) entries buffer h same = ap (λ (e : List ℕ). over e buffer) (same rows order refl)
-
-pub plan-order : (best : Best) (entries buffer : List ℕ) → isMet best ≡ true →
-    ((rows : List Row) (order : List ℕ) → best ≡ met rows order → entries ≡ order) →
-    over entries buffer ≡ orderKept best buffer
-unfolding orderKept isMet
-plan-order none-met entries buffer h same = absurd (false≢true h)
-plan-order (met rows order) entries buffer h same = ap (λ (e : List ℕ). over e buffer) (same rows order refl)
+-- with a plan the buffers get its starts, its order and its blockers
+pub plan-kept : (v : View) (best : Best) (lent : Buffers) (starts order blockers : List ℕ) → isMet best ≡ true →
+    ((rows : List Row) (along : List ℕ) → best ≡ met rows along →
+    (starts ≡ startsOf (v .demandCount) rows) × (order ≡ along) × (blockers ≡ over (blockersOf (problemOf v) (v .demandCount) rows) (lent .blockers))) →
+    record { starts = over starts (lent .starts); order = over order (lent .order); blockers = blockers } ≡ buffersKept v best lent
+unfolding buffersKept isMet
+plan-kept v none-met lent starts order blockers h same = absurd (false≢true h)
+plan-kept v (met rows along) lent starts order blockers h same =
+    let (s, o, b) = same rows along refl in
+    ap₂ (λ (x y : List ℕ). record { starts = over x (lent .starts); order = over y (lent .order); blockers = blockers }) s o
+    ∙ ap (λ (z : List ℕ). record { starts = over (startsOf (v .demandCount) rows) (lent .starts); order = over along (lent .order); blockers = z }) b
 
 -- without a plan they stay as they were
-pub no-plan-starts : (K : ℕ) (best : Best) (buffer : List ℕ) → isMet best ≡ false → buffer ≡ startsKept K best buffer
-unfolding startsKept isMet
-no-plan-starts K none-met buffer h = refl
-no-plan-starts K (met rows order) buffer h = absurd (false≢true (sym h))
-
-pub no-plan-order : (best : Best) (buffer : List ℕ) → isMet best ≡ false → buffer ≡ orderKept best buffer
-unfolding orderKept isMet
-no-plan-order none-met buffer h = refl
-no-plan-order (met rows order) buffer h = absurd (false≢true (sym h))
+pub no-plan-kept : (v : View) (best : Best) (lent : Buffers) → isMet best ≡ false → lent ≡ buffersKept v best lent
+unfolding buffersKept isMet
+no-plan-kept v none-met lent h = refl
+no-plan-kept v (met rows order) lent h = absurd (false≢true (sym h))
 
 -- a bound in reply: the request is sound, and it is its bound
 pub bound-known : (v : View) (need : ℕ) → bound-reply.Bound need ≡ boundReply v → (check v ≡ Sound) × (need ≡ boundOf v)
@@ -199,26 +175,22 @@ answered-told-whole (reply.Answered a) (reply.Refused why) h = absurd (refusal-t
 answered-told-whole (reply.Refused why) (reply.Answered a) h = absurd (refusal-told-fault why _ _ h)
 answered-told-whole (reply.Refused why) (reply.Refused why′) h = ap reply.Refused (refusal-told-whole why why′ h)
 
--- two results that meet the contract of `search` are equal, and leave the same in both buffers
-pub same-search : (v : View) (limit : ℕ) (starts order : List ℕ) (a a′ : SearchReply) (s s′ o o′ : List ℕ) →
-    a ≡ searchReply v limit (length starts) (length order) → s ≡ startsAfter v limit starts order → o ≡ orderAfter v limit starts order →
-    a′ ≡ searchReply v limit (length starts) (length order) → s′ ≡ startsAfter v limit starts order → o′ ≡ orderAfter v limit starts order →
-    (a ≡ a′) × (s ≡ s′) × (o ≡ o′)
-same-search v limit starts order a a′ s s′ o o′ h k l h′ k′ l′ = (h ∙ sym h′, k ∙ sym k′, l ∙ sym l′)
+-- two results that meet the contract of `search` are equal, and leave the same in the buffers
+pub same-search : (v : View) (limit : ℕ) (lent : Buffers) (a a′ : SearchReply) (after after′ : Buffers) →
+    a ≡ searchReply v limit (roomsOf lent) → after ≡ buffersAfter v limit lent →
+    a′ ≡ searchReply v limit (roomsOf lent) → after′ ≡ buffersAfter v limit lent → (a ≡ a′) × (after ≡ after′)
+same-search v limit lent a a′ after after′ h k h′ k′ = (h ∙ sym h′, k ∙ sym k′)
 
--- a refusal in reply leaves a buffer as it was
-unless-answered : (c : Checked) (a : theory.Answer) (why : Refusal) (before after : List ℕ) → replyTo c a ≡ reply.Refused why →
+-- a refusal in reply leaves the buffers as they were
+unless-answered : (c : Checked) (a : theory.Answer) (why : Refusal) (before after : Buffers) → replyTo c a ≡ reply.Refused why →
     unlessRefused c before after ≡ before
 unfolding replyTo unlessRefused
 unless-answered (Refused why′) a why before after e = refl
 unless-answered Sound a why before after e = absurd (let z : _≡_ {A = ℕ} 0 1 = cc in omega arith)
 
--- a search that is refused leaves both buffers as they were
-pub search-refused-keeps : (v : View) (limit : ℕ) (starts order : List ℕ) (why : Refusal) →
-    searchReply v limit (length starts) (length order) ≡ reply.Refused why →
-    (startsAfter v limit starts order ≡ starts) × (orderAfter v limit starts order ≡ order)
-unfolding searchReply startsAfter orderAfter
-search-refused-keeps v limit starts order why e =
-    let c : Checked = checkSearch v (length starts) (length order) in
-    let a : theory.Answer = searched v limit in
-    (unless-answered c a why starts (startsKept (v .demandCount) (a .best) starts) e, unless-answered c a why order (orderKept (a .best) order) e)
+-- a search that is refused leaves the buffers as they were
+pub search-refused-keeps : (v : View) (limit : ℕ) (lent : Buffers) (why : Refusal) →
+    searchReply v limit (roomsOf lent) ≡ reply.Refused why → buffersAfter v limit lent ≡ lent
+unfolding searchReply buffersAfter
+search-refused-keeps v limit lent why e =
+    unless-answered (checkSearch v (roomsOf lent)) (searched v limit) why lent (buffersKept v (searched v limit .best) lent) e

@@ -1,6 +1,6 @@
 -- The plan that a search shows is the one that the call of first fit gives in the order that it shows.
 use Prim.Native.Nat.{ℕ, _≤_}
-use mathlib.Core.List.{List, [], List·Memᴰ}
+use mathlib.Core.List.{List, [], _∷_, List·Memᴰ}
 use mathlib.Core.Logic.{_⊎_, ⊎-elim}
 use mathlib.Core.Path.{_≡_, sym, ap, subst, _∙_}
 use native.Mathlib.Omega.{arith}
@@ -9,10 +9,10 @@ use Rattle.theory.specs.Problem.{Problem, Row, Fitted, placed, fill, top, start
 use Rattle.theory.specs.FillLaws.{fill-planEnd}
 use Rattle.theory.specs.FirstFitLaws.{top-placed}
 use Rattle.theory.specs.AlikeLaws.{planEnd-alike}
+use Rattle.theory.specs.Arrange.{Arrange}
 use Rattle.theory.specs.Orders.{listing}
 use Rattle.theory.specs.ListingLaws.{listing-below, listing-no-repeats}
 use Rattle.request.specs.declared.Request.{Request}
-use Rattle.request.specs.declared.Checked.{Checked}
 use Rattle.request.specs.declared.Checked.the-variants.{Sound}
 use Rattle.request.specs.View.{View, view}
 use Rattle.request.specs.Check.{check}
@@ -22,34 +22,60 @@ use Rattle.placing.specs.declared.PlacedReply.the-variants as placed-reply
 use Rattle.request.specs.Sharing.{problemOf}
 use Rattle.meeting.specs.Plan.{startAt, startsOf}
 use Rattle.meeting.specs.PlanEndLaws.{plan-end-is}
-use Rattle.placing.specs.FirstFit.{checkFirstFit, fitted, fittedReply, placedAfter, firstFitReply, fittedStarts}
-use Rattle.placing.specs.FirstFitLaws.{all-pass, fitted-writes}
-use Rattle.placing.specs.OrderLaws.{arranged-passes}
+use Rattle.placing.specs.FirstFit.{blockersOf, checkFirstFit, fitted, fittedReply, firstFitReply, fittedStarts, fittedBlockers, firstFitStarts, firstFitBlockers}
+use Rattle.placing.specs.FirstFitLaws.{all-pass, fitted-answers, fitted-writes, fitted-names, blockers-long}
 use Rattle.search.specs.declared.Outcome.{Outcome}
 use Rattle.search.specs.declared.Outcome.the-variants.{Finished, Unfinished}
 use Rattle.search.specs.declared.Answer.{Answer}
 use Rattle.search.specs.declared.SearchReply.the-variants as reply
-use Rattle.search.specs.Reply.{searched, checkSearch, searchReply, startsAfter, orderAfter}
+use Rattle.search.specs.Reply.{Buffers, roomsOf, searched, checkSearch, searchReply, buffersAfter}
 use Rattle.search.specs.ReplyLaws.{passed-searchable}
-use Rattle.search.specs.Demand3.{OrderOf, PlanShown, FirstFitShows, Promised}
+use Rattle.search.specs.Demand3.{OrderOf, PlanShown, FirstFitShows, Promised, fronts}
 use Rattle.search.specs.Demand3Laws.{answer-given, demand3}
 use Rattle.meeting.specs.MeetingLaws.{start-listed, starts-long}
+use Rattle.lent.specs.Lent.{over}
 use Rattle.lent.specs.LentLaws.{front-written}
 
+module _ (v : View) (passes : check v ≡ Sound) (order starts blockers : List ℕ) (arranged : Arrange order (listing (v .demandCount)))
+    (rows : List Row) (out : fitted v order ≡ placed rows) (room : v .demandCount ≤ length starts) (blockers-room : v .demandCount ≤ length blockers) where
+  -- the tests of first fit pass
+  tested : checkFirstFit v order (length starts ∷ length blockers ∷ []) ≡ Sound
+  tested = all-pass v passes order arranged (length starts) (length blockers) room blockers-room
+
+  -- it replies with the end of the rows
+  order-placed : firstFitReply v order (length starts ∷ length blockers ∷ []) ≡ placed-reply.Placed (top (problemOf v) rows)
+  unfolding fittedReply
+  order-placed = fitted-answers v order (length starts ∷ length blockers ∷ []) tested ∙ ap (fittedReply v) out
+
+  -- and writes their starts
+  order-starts : firstFitStarts v order (length starts ∷ length blockers ∷ []) starts ≡ over (startsOf (v .demandCount) rows) starts
+  unfolding fittedStarts
+  order-starts =
+      fitted-writes v order (length starts ∷ length blockers ∷ []) tested starts
+      ∙ ap (λ (o : Fitted). fittedStarts (v .demandCount) o starts) out
+
+  -- and their blockers
+  pub order-blockers :
+      firstFitBlockers v order (length starts ∷ length blockers ∷ []) blockers ≡ over (blockersOf (problemOf v) (v .demandCount) rows) blockers
+  unfolding fittedBlockers
+  order-blockers =
+      fitted-names v order (length starts ∷ length blockers ∷ []) tested blockers ∙ ap (λ (o : Fitted). fittedBlockers v o blockers) out
+
 -- a plan shown is what first fit gives in its order
-shown-placed : (v : View) → check v ≡ Sound → length (v .demands) ≡ v .demandCount → (e : ℕ) (starts order buffer : List ℕ) →
-    PlanShown v e starts order → v .demandCount ≤ length buffer → FirstFitShows v e starts order buffer
-unfolding firstFitReply placedAfter fittedReply fitted fittedStarts OrderOf
-shown-placed v passes counted e starts order buffer shown room =
+shown-placed : (v : View) → check v ≡ Sound → length (v .demands) ≡ v .demandCount → (e : ℕ) (shown : Buffers) (starts blockers : List ℕ) →
+    PlanShown v e shown → v .demandCount ≤ length starts → v .demandCount ≤ length blockers → FirstFitShows v e shown starts blockers
+unfolding fitted OrderOf
+shown-placed v passes counted e shown starts blockers plan room blockers-room =
     record {
-      placed =
-          ap (λ (c : Checked). placedAfter c (fittedReply P (fitted v order))) tested
-          ∙ ap (fittedReply P) out
-          ∙ ap placed-reply.Placed ends;
+      placed = order-placed v passes (shown .order) starts blockers (plan .an-order) rows out room blockers-room ∙ ap placed-reply.Placed ends;
       same-starts =
-          ap (take K) (fitted-writes v order buffer tested ∙ ap (λ (o : Fitted). fittedStarts K o buffer) out)
-          ∙ front-written K (startsOf K rows) buffer (starts-long K rows)
-          ∙ sym (shown .by-first-fit);
+          ap (take K) (order-starts v passes (shown .order) starts blockers (plan .an-order) rows out room blockers-room)
+          ∙ front-written K (startsOf K rows) starts (starts-long K rows)
+          ∙ sym (plan .by-first-fit);
+      same-blockers =
+          ap (take K) (order-blockers v passes (shown .order) starts blockers (plan .an-order) rows out room blockers-room)
+          ∙ front-written K (blockersOf P K rows) blockers (blockers-long P K rows)
+          ∙ sym (plan .its-blockers);
     }
   where
     K : ℕ
@@ -59,55 +85,48 @@ shown-placed v passes counted e starts order buffer shown room =
     P = problemOf v
 
     rows : List Row
-    rows = fill P [] order
+    rows = fill P [] (shown .order)
 
-    tested : checkFirstFit v order buffer ≡ Sound
-    tested = all-pass v order buffer passes (arranged-passes K order (shown .an-order)) room
-
-    same : (i : ℕ) → List·Memᴰ i (listing K) → startIn rows i ≡ startAt starts i
+    same : (i : ℕ) → List·Memᴰ i (listing K) → startIn rows i ≡ startAt (shown .starts) i
     same i m =
-        sym (start-listed K rows i (listing-below K i m)) ∙ ap (λ (s : List ℕ). startAt s i) (sym (shown .by-first-fit))
+        sym (start-listed K rows i (listing-below K i m)) ∙ ap (λ (s : List ℕ). startAt s i) (sym (plan .by-first-fit))
 
     ends : top P rows ≡ e
     ends =
-        sym (fill-planEnd P [] order (listing K) (shown .an-order) (listing-no-repeats K))
-        ∙ planEnd-alike P (startIn rows) (startAt starts) [] (listing K) same
-        ∙ sym (plan-end-is v starts counted)
-        ∙ shown .ends
+        sym (fill-planEnd P [] (shown .order) (listing K) (plan .an-order) (listing-no-repeats K))
+        ∙ planEnd-alike P (startIn rows) (startAt (shown .starts)) [] (listing K) same
+        ∙ sym (plan-end-is v (shown .starts) counted)
+        ∙ plan .ends
 
-    out : fitted v order ≡ placed rows
-    out = top-placed P (v .band .slots) [] order (omega (arith, ends, shown .in-band))
+    out : fitted v (shown .order) ≡ placed rows
+    out = top-placed P (v .band .slots) [] (shown .order) (omega (arith, ends, plan .in-band))
 
--- with a plan shown, finished or not: first fit, called with the order shown and any buffer of at least K entries, replies with the end
--- shown, and its starts are the starts shown
-pub first-fit-shown : (q : Request) → Whole q → (limit : ℕ) (starts order : List ℕ) (a : Answer) →
-    searchReply (view q) limit (length starts) (length order) ≡ reply.Answered a →
-    (e : ℕ) → (a .outcome ≡ Finished e) ⊎ (a .outcome ≡ Unfinished e) → (buffer : List ℕ) → view q .demandCount ≤ length buffer →
-    FirstFitShows (view q) e (take (view q .demandCount) (startsAfter (view q) limit starts order))
-    (take (view q .demandCount) (orderAfter (view q) limit starts order)) buffer
+-- with a plan shown, finished or not: first fit, called with the order shown and any two buffers of at least K entries, replies with the
+-- end shown, and its starts and its blockers are those shown
+pub first-fit-shown : (q : Request) → Whole q → (limit : ℕ) (lent : Buffers) (a : Answer) →
+    searchReply (view q) limit (roomsOf lent) ≡ reply.Answered a →
+    (e : ℕ) → (a .outcome ≡ Finished e) ⊎ (a .outcome ≡ Unfinished e) →
+    (starts blockers : List ℕ) → view q .demandCount ≤ length starts → view q .demandCount ≤ length blockers →
+    FirstFitShows (view q) e (fronts (view q .demandCount) (buffersAfter (view q) limit lent)) starts blockers
 unfolding searchReply Promised
-first-fit-shown q whole limit starts order a answered e outcome buffer room =
-    shown-placed v sound (checked-limits q whole sound .demands-there) e (take K (startsAfter v limit starts order))
-    (take K (orderAfter v limit starts order)) buffer
+first-fit-shown q whole limit lent a answered e outcome starts blockers room blockers-room =
+    shown-placed v sound (checked-limits q whole sound .demands-there) e shown starts blockers
     (⊎-elim
     (λ (finished : a .outcome ≡ Finished e). promised (Finished e) finished .shown)
     (λ (unfinished : a .outcome ≡ Unfinished e). promised (Unfinished e) unfinished .shown)
     outcome)
     room
+    blockers-room
   where
     v : View
     v = view q
 
-    K : ℕ
-    K = v .demandCount
+    shown : Buffers
+    shown = fronts (v .demandCount) (buffersAfter v limit lent)
 
     sound : check v ≡ Sound
     sound =
-        passed-searchable v (length starts) (length order)
-        (answer-given (checkSearch v (length starts) (length order)) (searched v limit) a answered .0) .sound
+        passed-searchable v (roomsOf lent) (answer-given (checkSearch v (roomsOf lent)) (searched v limit) a answered .0) .sound
 
-    promised : (o : Outcome) → a .outcome ≡ o →
-        Promised v limit a (take K (startsAfter v limit starts order)) (take K (orderAfter v limit starts order)) o
-    promised o is =
-        subst (Promised v limit a (take K (startsAfter v limit starts order)) (take K (orderAfter v limit starts order))) is
-        (demand3 q whole limit starts order a answered .promised)
+    promised : (o : Outcome) → a .outcome ≡ o → Promised v limit a shown o
+    promised o is = subst (Promised v limit a shown) is (demand3 q whole limit lent a answered .promised)

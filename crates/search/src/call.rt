@@ -7,61 +7,69 @@ use crate::Walked;
 use crate::factorial;
 use crate::table::meeting_table;
 use crate::walk_orders;
-use lent::check_room;
+use lent::check_rooms;
 use lent::write_front;
 use meeting::BoundReply;
 use meeting::bound;
+use placing::first_fit;
 use refusal::Refusal;
 use request::Checked;
 use request::Request;
 ghost use mathlib.Core.Path.{_≡_};
 ghost use Prim.Native.Nat.{ℕ};
-ghost use lib.ListN.{getD, length, replicate};
+ghost use lib.ListN.{getD, replicate};
 ghost use Rattle.request.specs.declared.Checked.the-variants.{Sound};
 ghost use Rattle.request.specs.View.{view, demandAt};
 ghost use Rattle.request.specs.Check.{check};
 ghost use Rattle.meeting.specs.Bound.{boundOf};
-ghost use Rattle.search.specs.Reply.{outcomeBy, searchReply, startsAfter, orderAfter};
+ghost use Rattle.search.specs.Reply.{outcomeBy, buffersOf, roomsOf, searchReply, buffersAfter};
 ghost use Rattle.search.specs.inner.Found.{FoundFor, Searchable};
 
 // The search for the lowest end of any plan: up to 20 demands, at most `limit` steps. With a plan `starts` gets its start of each
-// demand by listing position, and `order` the order that gave it; without one, and on a refusal, both stay as they were. The bound
-// tests the request first.
-pub fn search(request: Request, limit: u32, starts: &mut [u16], order: &mut [u16]) -> SearchReply
-    ensures answer { λ r. ⌜ r ≡ searchReply (view request) limit (length (now (starts .entry))) (length (now (order .entry))) ⌝ }
-    ensures starts { λ _. ⌜ now (starts .exit) ≡ startsAfter (view request) limit (now (starts .entry)) (now (order .entry)) ⌝ }
-    ensures order { λ _. ⌜ now (order .exit) ≡ orderAfter (view request) limit (now (starts .entry)) (now (order .entry)) ⌝ }
+// demand by listing position, `order` the order that gave it, and `blockers` by listing position who kept each demand from starting
+// lower, 65535 for nobody; without one, and on a refusal, all three stay as they were. The bound tests the request first.
+pub fn search(
+    request: Request,
+    limit: u32,
+    starts: &mut [u16],
+    order: &mut [u16],
+    blockers: &mut [u16],
+) -> SearchReply
+    ensures answer { λ r. ⌜ r ≡ searchReply (view request) limit (roomsOf (buffersOf (now (starts .entry)) (now (order .entry)) (now (blockers .entry)))) ⌝ }
+    ensures starts { λ _. ⌜ now (starts .exit) ≡ buffersAfter (view request) limit (buffersOf (now (starts .entry)) (now (order .entry)) (now (blockers .entry))) .starts ⌝ }
+    ensures order { λ _. ⌜ now (order .exit) ≡ buffersAfter (view request) limit (buffersOf (now (starts .entry)) (now (order .entry)) (now (blockers .entry))) .order ⌝ }
+    ensures blockers { λ _. ⌜ now (blockers .exit) ≡ buffersAfter (view request) limit (buffersOf (now (starts .entry)) (now (order .entry)) (now (blockers .entry))) .blockers ⌝ }
 {
     let bounded = bound(request);
     match bounded {
-        BoundReply::Bound(need) => search_sound(request, need, limit, starts, order),
+        BoundReply::Bound(need) => search_sound(request, need, limit, starts, order, blockers),
         BoundReply::Refused(why) => SearchReply::Refused(why),
     }
 }
 
-// The search of a sound request with its bound: 11, then 10 for each buffer, then what is found.
+// The search of a sound request with its bound: 11, then 10 for each buffer, then what is found. First fit runs once more along the order
+// found, for the blockers; its starts are those of the plan, and are not looked at.
 fn search_sound(
     request: Request,
     need: u32,
     limit: u32,
     starts: &mut [u16],
     order: &mut [u16],
+    blockers: &mut [u16],
 ) -> SearchReply
     requires { ⌜ (check (view request) ≡ Sound) × (need ≡ boundOf (view request)) ⌝ }
-    ensures answer { λ r. ⌜ r ≡ searchReply (view request) limit (length (now (starts .entry))) (length (now (order .entry))) ⌝ }
-    ensures starts { λ _. ⌜ now (starts .exit) ≡ startsAfter (view request) limit (now (starts .entry)) (now (order .entry)) ⌝ }
-    ensures order { λ _. ⌜ now (order .exit) ≡ orderAfter (view request) limit (now (starts .entry)) (now (order .entry)) ⌝ }
+    ensures answer { λ r. ⌜ r ≡ searchReply (view request) limit (roomsOf (buffersOf (now (starts .entry)) (now (order .entry)) (now (blockers .entry)))) ⌝ }
+    ensures starts { λ _. ⌜ now (starts .exit) ≡ buffersAfter (view request) limit (buffersOf (now (starts .entry)) (now (order .entry)) (now (blockers .entry))) .starts ⌝ }
+    ensures order { λ _. ⌜ now (order .exit) ≡ buffersAfter (view request) limit (buffersOf (now (starts .entry)) (now (order .entry)) (now (blockers .entry))) .order ⌝ }
+    ensures blockers { λ _. ⌜ now (blockers .exit) ≡ buffersAfter (view request) limit (buffersOf (now (starts .entry)) (now (order .entry)) (now (blockers .entry))) .blockers ⌝ }
 {
     let count = request.demand_count;
     if 20 < count {
         return SearchReply::Refused(Refusal::TooManyToSearch(count));
     }
-    let starts_room = check_room(count, starts.len());
-    if let Checked::Refused(why) = starts_room {
-        return SearchReply::Refused(why);
-    }
-    let order_room = check_room(count, order.len());
-    if let Checked::Refused(why) = order_room {
+    let rooms = [starts.len(), order.len(), blockers.len()];
+    let roomy = check_rooms(count, &rooms);
+    if let Checked::Refused(why) = roomy {
         return SearchReply::Refused(why);
     }
     let found = find(request, need, limit);
@@ -74,6 +82,8 @@ fn search_sound(
     write_front(&first[..count], starts);
     let along = found.order;
     write_front(&along[..count], order);
+    let mut again = [0u16; 20];
+    first_fit(request, &along[..count], &mut again, blockers);
     SearchReply::Answered(answer)
 }
 

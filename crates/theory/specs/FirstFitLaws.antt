@@ -18,10 +18,10 @@ module _ (P : Problem) (S : ℕ) where
 
   -- a demand whose lowest start ends above S is refused
   pub firstFit-refuses : (rows : List Row) (i : ℕ) (order : List ℕ) → S < endOf P i (lowest P rows i) →
-      firstFit P S rows (i ∷ order) ≡ refused i
+      firstFit P S rows (i ∷ order) ≡ refused rows i
   unfolding firstFit
   firstFit-refuses rows i order h =
-      ap (λ (b : Bool). cond b (firstFit P S (place P rows i) order) (refused i)) (lt-leb (endOf P i (lowest P rows i)) S h)
+      ap (λ (b : Bool). cond b (firstFit P S (place P rows i) order) (refused rows i)) (lt-leb (endOf P i (lowest P rows i)) S h)
 
   -- a demand whose lowest start ends within S is placed there, and first fit goes on
   pub firstFit-on : (rows : List Row) (i : ℕ) (order : List ℕ) → endOf P i (lowest P rows i) ≤ S →
@@ -103,26 +103,28 @@ module _ (P : Problem) (S : ℕ) where
   -- a demand is refused where those before it are placed and its lowest start ends above S
   pub refuses-at : (rows : List Row) (before : List ℕ) (i : ℕ) (after : List ℕ) →
       firstFit P S rows before ≡ placed (fill P rows before) → S < endOf P i (lowest P (fill P rows before) i) →
-      firstFit P S rows (before ++ (i ∷ after)) ≡ refused i
+      firstFit P S rows (before ++ (i ∷ after)) ≡ refused (fill P rows before) i
   refuses-at rows before i after e h =
       firstFit-append rows before (i ∷ after) (fill P rows before) e ∙ firstFit-refuses (fill P rows before) i after h
 
   -- a refused demand stands in the order behind others that are all placed, and its lowest start ends above S
-  pub refused-at : (rows : List Row) (order : List ℕ) (i : ℕ) → firstFit P S rows order ≡ refused i →
+  pub refused-at : (rows : List Row) (order : List ℕ) (so-far : List Row) (i : ℕ) → firstFit P S rows order ≡ refused so-far i →
       (before : List ℕ)
       × (after : List ℕ)
       × (order ≡ before ++ (i ∷ after))
+      × (so-far ≡ fill P rows before)
       × (firstFit P S rows before ≡ placed (fill P rows before))
       × (S < endOf P i (lowest P (fill P rows before) i))
-  refused-at rows [] i e = let f = firstFit-nil rows in absurd (let z : _≡_ {A = ℕ} 0 1 = cc in omega arith)
-  refused-at rows (j ∷ order) i e =
+  refused-at rows [] so-far i e = let f = firstFit-nil rows in absurd (let z : _≡_ {A = ℕ} 0 1 = cc in omega arith)
+  refused-at rows (j ∷ order) so-far i e =
       by-test (leb (endOf P j (lowest P rows j)) S)
       (λ l.
       let h : endOf P j (lowest P rows j) ≤ S = leb-true (endOf P j (lowest P rows j)) S l in
-      let (before, after, split, fine, above) = refused-at (place P rows j) order i (sym (firstFit-on rows j order h) ∙ e) in (
+      let (before, after, split, rows-are, fine, above) = refused-at (place P rows j) order so-far i (sym (firstFit-on rows j order h) ∙ e) in (
         j ∷ before,
         after,
         ap (λ (o : List ℕ). j ∷ o) split,
+        rw fill-cons rows-are,
         rw fill-cons (firstFit-on rows j before h ∙ fine),
         rw fill-cons above,
       ))
@@ -130,14 +132,15 @@ module _ (P : Problem) (S : ℕ) where
       let above : S < endOf P j (lowest P rows j) = leb-false (endOf P j (lowest P rows j)) S g in
       let f = firstFit-refuses rows j order above in
       let same : j ≡ i = cc in
-      ([], order, ap (λ (k : ℕ). k ∷ order) same, rw fill-nil (firstFit-nil rows), rw (fill-nil, ← same) above))
+      let kept : rows ≡ so-far = cc in
+      ([], order, ap (λ (k : ℕ). k ∷ order) same, rw fill-nil (sym kept), rw fill-nil (firstFit-nil rows), rw (fill-nil, ← same) above))
 
   -- where first fit refuses a demand, no start at which it clashes with nothing placed so far ends within S
-  pub refused-none : (rows : List Row) (order : List ℕ) (i : ℕ) → firstFit P S rows order ≡ refused i →
+  pub refused-none : (rows : List Row) (order : List ℕ) (so-far : List Row) (i : ℕ) → firstFit P S rows order ≡ refused so-far i →
       (before : List ℕ)
       × (after : List ℕ)
       × (order ≡ before ++ (i ∷ after))
       × ((s : ℕ) → fits P (fill P rows before) i s ≡ true → endOf P i s ≤ S → ⊥)
-  refused-none rows order i e =
-      let (before, after, split, fine, above) = refused-at rows order i e in
+  refused-none rows order so-far i e =
+      let (before, after, split, rows-are, fine, above) = refused-at rows order so-far i e in
       (before, after, split, none-fits (fill P rows before) i above)

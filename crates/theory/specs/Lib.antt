@@ -5,6 +5,8 @@ pub mod ArrangeLaws
 pub mod TestLaws
 pub mod ApartLaws
 pub mod ProblemLaws
+pub mod Blocker
+pub mod BlockerLaws
 pub mod ScanLaws
 pub mod AllowedLaws
 pub mod FillLaws

@@ -65,10 +65,10 @@ module _ (P : Problem) where
   top [] = 0
   top (r ∷ rows) = max (endOf P (r .who) (r .at)) (top rows)
 
--- what first fit inside a band gives: all are placed, or the first demand for which there is no start
+-- what first fit inside a band gives: the rows of all, or the rows so far and the first demand for which there is no start beside them
 pub data Fitted : Type 0 where
   placed : List Row → Fitted
-  refused : ℕ → Fitted
+  refused : List Row → ℕ → Fitted
 
 module _ (P : Problem) (S : ℕ) where
   -- first fit in an order, each end at most S
@@ -77,7 +77,7 @@ module _ (P : Problem) (S : ℕ) where
   firstFit rows [] = placed rows
   firstFit rows (i ∷ order) =
       let further : Fitted = firstFit (place P rows i) order in
-      cond (leb (endOf P i (lowest P rows i)) S) further (refused i)
+      cond (leb (endOf P i (lowest P rows i)) S) further (refused rows i)
 
 -- a plan is a start for each demand of a list, beside rows that stand already; it is allowed when all demands end within S, and
 -- no demand clashes with a row or with another demand of the list

@@ -4,3 +4,4 @@ pub mod Bound
 pub mod Tried
 pub mod Promises
 pub mod AsLow
+pub mod Clashes

@@ -2,7 +2,6 @@
 use Prim.Native.Nat.{ℕ}
 use mathlib.Core.List.{List, [], _∷_}
 use mathlib.Core.Path.{_≡_}
-use lib.ListN.{length}
 use Rattle.grid.specs.declared.FrequencyReply.{FrequencyReply}
 use Rattle.grid.specs.declared.BlockReply.{BlockReply}
 use Rattle.grid.specs.Grid.{frequencyReply, blockReply}
@@ -16,22 +15,23 @@ use Rattle.request.specs.RoundTrip.{Bytes}
 use Rattle.meeting.specs.declared.BoundReply.{BoundReply}
 use Rattle.placing.specs.declared.PlacedReply.{PlacedReply}
 use Rattle.meeting.specs.Reply.{boundReply, boundTold}
-use Rattle.placing.specs.FirstFit.{firstFitReply, firstFitStarts, placedTold}
+use Rattle.placing.specs.FirstFit.{firstFitReply, firstFitStarts, firstFitBlockers, placedTold}
 use Rattle.search.specs.declared.SearchReply.{SearchReply}
-use Rattle.search.specs.Reply.{searchReply, startsAfter, orderAfter, answeredTold}
+use Rattle.search.specs.Reply.{Buffers, roomsOf, searchReply, buffersAfter, answeredTold}
 use Rattle.plan.specs.declared.CheckReply.{CheckReply}
 use Rattle.plan.specs.CheckStarts.{startsReply, acceptedTold}
-use Rattle.worked.specs.Calls.{Call, Said, says, says±, lent, sayVerdict, first-fit, bound, search, check-starts, to-frequency, from-frequency, read-request}
+use Rattle.worked.specs.Calls.{Call, Said, says, says±, lent, rooms, three, shown, sayVerdict, first-fit, bound, search, check-starts, to-frequency, from-frequency, read-request}
 
 -- a call gives an answer: for every request that looks like the line's, every result and every buffer that meet the contract say it
 unfoldable pub Gives : Call → Said → Type 0
 Gives (first-fit v order) said =
-    (q : Request) → view q ≡ v → (r : PlacedReply) (starts : List ℕ) → r ≡ firstFitReply (view q) order lent →
-    starts ≡ firstFitStarts (view q) order lent → says (placedTold r) (starts ∷ []) ≡ said
+    (q : Request) → view q ≡ v → (r : PlacedReply) (starts blockers : List ℕ) → r ≡ firstFitReply (view q) order rooms →
+    starts ≡ firstFitStarts (view q) order rooms lent → blockers ≡ firstFitBlockers (view q) order rooms lent →
+    says (placedTold r) (starts ∷ blockers ∷ []) ≡ said
 Gives (bound v) said = (q : Request) → view q ≡ v → (r : BoundReply) → r ≡ boundReply (view q) → says (boundTold r) [] ≡ said
 Gives (search v limit) said =
-    (q : Request) → view q ≡ v → (r : SearchReply) (starts order : List ℕ) → r ≡ searchReply (view q) limit (length lent) (length lent) →
-    starts ≡ startsAfter (view q) limit lent lent → order ≡ orderAfter (view q) limit lent lent → says (answeredTold r) (starts ∷ order ∷ []) ≡ said
+    (q : Request) → view q ≡ v → (r : SearchReply) (after : Buffers) → r ≡ searchReply (view q) limit (roomsOf three) →
+    after ≡ buffersAfter (view q) limit three → says (answeredTold r) (shown after) ≡ said
 Gives (check-starts v starts) said =
     (q : Request) → view q ≡ v → (r : CheckReply) → r ≡ startsReply (view q) starts → says (acceptedTold r) [] ≡ said
 Gives (to-frequency band start width) said = (r : FrequencyReply) → r ≡ frequencyReply band start width → says± (centreTold r) ≡ said

@@ -25,9 +25,9 @@ read-told (accepted v) seen = ap (sayVerdict checked.Sound) (seen v refl)
 -- every call gives what it says
 gives-says : (call : Call) → Gives call (say call)
 unfolding Gives say
-gives-says (first-fit v order) = λ q seen r starts hr hs. rw (hr, hs, seen)
+gives-says (first-fit v order) = λ q seen r starts blockers hr hs hb. rw (hr, hs, hb, seen)
 gives-says (bound v) = λ q seen r hr. rw (hr, seen)
-gives-says (search v limit) = λ q seen r starts order hr hs ho. rw (hr, hs, ho, seen)
+gives-says (search v limit) = λ q seen r after hr ha. rw (hr, ha, seen)
 gives-says (check-starts v starts) = λ q seen r hr. rw (hr, seen)
 gives-says (to-frequency band start width) = λ r hr. rw hr
 gives-says (from-frequency band n m) = λ r hr. rw hr

@@ -14,8 +14,8 @@ use Rattle.request.specs.Encoding.{encode}
 use Rattle.request.specs.Told.{checkedTold}
 use Rattle.reading.specs.Reading.{FileReading, refused, accepted, readFile}
 use Rattle.meeting.specs.Reply.{boundReply, boundTold}
-use Rattle.placing.specs.FirstFit.{firstFitReply, firstFitStarts, placedTold}
-use Rattle.search.specs.Reply.{searchReply, startsAfter, orderAfter, answeredTold}
+use Rattle.placing.specs.FirstFit.{firstFitReply, firstFitStarts, firstFitBlockers, placedTold}
+use Rattle.search.specs.Reply.{Buffers, buffersOf, roomsOf, searchReply, buffersAfter, answeredTold}
 use Rattle.plan.specs.CheckStarts.{startsReply, acceptedTold}
 
 -- a public call with its inputs; buffers are lent with room for four entries, all 7
@@ -39,6 +39,17 @@ pub data Said : Type 0 where
 abbrev pub lent : List ℕ
 lent = 7 ∷ 7 ∷ 7 ∷ 7 ∷ []
 
+-- the rooms of the two that first fit is lent
+abbrev pub rooms : List ℕ
+rooms = length lent ∷ length lent ∷ []
+
+-- the three that a search is lent, and what they say
+abbrev pub three : Buffers
+three = buffersOf lent lent lent
+
+abbrev pub shown : Buffers → List (List ℕ)
+shown after = after .starts ∷ after .order ∷ after .blockers ∷ []
+
 -- what a reading says: the refusal, or the request
 unfoldable pub sayVerdict : Checked → View → Said
 unfolding encode checkedTold
@@ -54,11 +65,10 @@ sayRead (refused why) = says (checkedTold (checked.Refused why)) []
 -- what a call answers, and what it leaves in its buffers
 unfoldable pub say : Call → Said
 unfolding sayRead
-say (first-fit v order) = says (placedTold (firstFitReply v order lent)) (firstFitStarts v order lent ∷ [])
+say (first-fit v order) =
+    says (placedTold (firstFitReply v order rooms)) (firstFitStarts v order rooms lent ∷ firstFitBlockers v order rooms lent ∷ [])
 say (bound v) = says (boundTold (boundReply v)) []
-say (search v limit) =
-    says (answeredTold (searchReply v limit (length lent) (length lent)))
-    (startsAfter v limit lent lent ∷ orderAfter v limit lent lent ∷ [])
+say (search v limit) = says (answeredTold (searchReply v limit (roomsOf three))) (shown (buffersAfter v limit three))
 say (check-starts v starts) = says (acceptedTold (startsReply v starts)) []
 say (to-frequency band start width) = says± (centreTold (frequencyReply band start width))
 say (from-frequency band n m) = says (blockTold (blockReply band n m)) []

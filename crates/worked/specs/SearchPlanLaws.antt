@@ -3,7 +3,7 @@ use Prim.Native.Nat.{ℕ}
 use mathlib.Core.List.{List, [], _++_}
 use mathlib.Core.Path.{_≡_, sym, ap, subst, _∙_}
 use native.Mathlib.Omega.{arith}
-use lib.ListN.{length, take, drop, length-append, take-append-drop}
+use lib.ListN.{length, drop, length-append, take-append-drop}
 use Rattle.theory.specs.Problem.{startIn, fill}
 use Rattle.request.specs.declared.Request.{Request}
 use Rattle.request.specs.declared.Checked.the-variants.{Sound}
@@ -17,10 +17,10 @@ use Rattle.search.specs.declared.Outcome.{Outcome}
 use Rattle.search.specs.declared.Outcome.the-variants.{Finished, Unfinished}
 use Rattle.search.specs.declared.Answer.{Answer}
 use Rattle.search.specs.declared.SearchReply.the-variants.{Answered}
-use Rattle.search.specs.Reply.{searched, checkSearch, searchReply, startsAfter, orderAfter}
+use Rattle.search.specs.Reply.{Buffers, roomsOf, searched, checkSearch, searchReply, buffersAfter}
 use Rattle.meeting.specs.Plan.{startsOf}
 use Rattle.search.specs.ReplyLaws.{passed-searchable}
-use Rattle.search.specs.Demand3.{PlanShown, Promised}
+use Rattle.search.specs.Demand3.{PlanShown, Promised, fronts}
 use Rattle.search.specs.Demand3Laws.{answer-given, demand3}
 use Rattle.plan.specs.declared.CheckReply.the-variants.{Accepted}
 use Rattle.plan.specs.CheckStarts.{startsReply}
@@ -29,55 +29,51 @@ use Rattle.planfile.specs.AlikeLaws.{longer-alike, reply-alike}
 use Rattle.planfile.specs.PlanPackingLaws.{made-length}
 
 -- the plan shown is accepted with its end, whatever stands behind it
-shown-accepted : (r : Request) → Whole r → check (view r) ≡ Sound → (e : ℕ) (shown order rest : List ℕ) → PlanShown (view r) e shown order →
-    startsReply (view r) (shown ++ rest) ≡ Accepted e
+shown-accepted : (r : Request) → Whole r → check (view r) ≡ Sound → (e : ℕ) (plan : Buffers) (rest : List ℕ) → PlanShown (view r) e plan →
+    startsReply (view r) (plan .starts ++ rest) ≡ Accepted e
 unfolding startsOf
-shown-accepted r whole sound e shown order rest plan =
+shown-accepted r whole sound e plan rest shown =
     let v = view r in
-    let all : length shown ≡ v .demandCount =
-    ap length (plan .by-first-fit) ∙ made-length (startIn (fill (problemOf v) [] order)) (v .demandCount) in
-    reply-alike v (checked-limits r whole sound .demands-there) shown (shown ++ rest) (longer-alike v shown rest all) e
-    (omega (arith, length-append shown rest))
-    (allowed-accepted v (whole-counted r whole) shown
-    (record { request-sound = check-sound v (whole-counted r whole) sound; enough-starts = omega arith; plan-allowed = plan .allowed })
-    ∙ ap Accepted (plan .ends))
+    let starts = plan .starts in
+    let all : length starts ≡ v .demandCount =
+    ap length (shown .by-first-fit) ∙ made-length (startIn (fill (problemOf v) [] (plan .order))) (v .demandCount) in
+    reply-alike v (checked-limits r whole sound .demands-there) starts (starts ++ rest) (longer-alike v starts rest all) e
+    (omega (arith, length-append starts rest))
+    (allowed-accepted v (whole-counted r whole) starts
+    (record { request-sound = check-sound v (whole-counted r whole) sound; enough-starts = omega arith; plan-allowed = shown .allowed })
+    ∙ ap Accepted (shown .ends))
 
-module _ (r : Request) (whole : Whole r) (limit : ℕ) (starts order : List ℕ) (answer : Answer)
-    (answered : searchReply (view r) limit (length starts) (length order) ≡ Answered answer) where
+module _ (r : Request) (whole : Whole r) (limit : ℕ) (lent : Buffers) (answer : Answer)
+    (answered : searchReply (view r) limit (roomsOf lent) ≡ Answered answer) where
   -- the request passed its test
   sound : check (view r) ≡ Sound
   unfolding searchReply
   sound =
-      passed-searchable (view r) (length starts) (length order)
-      (answer-given (checkSearch (view r) (length starts) (length order)) (searched (view r) limit) answer answered .0) .sound
+      passed-searchable (view r) (roomsOf lent)
+      (answer-given (checkSearch (view r) (roomsOf lent)) (searched (view r) limit) answer answered .0) .sound
 
-  -- what the answer promises of the first entries of the buffers
-  promised : (o : Outcome) → answer .outcome ≡ o →
-      Promised (view r) limit answer (take (view r .demandCount) (startsAfter (view r) limit starts order))
-      (take (view r .demandCount) (orderAfter (view r) limit starts order)) o
-  promised o e =
-      subst
-      (Promised (view r) limit answer (take (view r .demandCount) (startsAfter (view r) limit starts order))
-      (take (view r .demandCount) (orderAfter (view r) limit starts order)))
-      e (demand3 r whole limit starts order answer answered .promised)
+  -- the plan that the buffers hold at their front
+  abbrev plan : Buffers
+  plan = fronts (view r .demandCount) (buffersAfter (view r) limit lent)
+
+  -- what the answer promises of it
+  promised : (o : Outcome) → answer .outcome ≡ o → Promised (view r) limit answer plan o
+  promised o e = subst (Promised (view r) limit answer plan) e (demand3 r whole limit lent answer answered .promised)
 
   -- a plan shown is what the buffer of starts holds, and it is accepted
-  held-accepted : (e : ℕ) →
-      PlanShown (view r) e (take (view r .demandCount) (startsAfter (view r) limit starts order))
-      (take (view r .demandCount) (orderAfter (view r) limit starts order)) →
-      startsReply (view r) (startsAfter (view r) limit starts order) ≡ Accepted e
-  held-accepted e plan =
+  held-accepted : (e : ℕ) → PlanShown (view r) e plan → startsReply (view r) (buffersAfter (view r) limit lent .starts) ≡ Accepted e
+  unfolding fronts
+  held-accepted e shown =
       let K = view r .demandCount in
-      let after = startsAfter (view r) limit starts order in
-      ap (startsReply (view r)) (sym (take-append-drop K after))
-      ∙ shown-accepted r whole sound e (take K after) (take K (orderAfter (view r) limit starts order)) (drop K after) plan
+      let after = buffersAfter (view r) limit lent .starts in
+      ap (startsReply (view r)) (sym (take-append-drop K after)) ∙ shown-accepted r whole sound e plan (drop K after) shown
 
   -- the plan of a search that has finished is accepted with the end answered
-  pub finished-accepted : (e : ℕ) → answer .outcome ≡ Finished e → startsReply (view r) (startsAfter (view r) limit starts order) ≡ Accepted e
+  pub finished-accepted : (e : ℕ) → answer .outcome ≡ Finished e → startsReply (view r) (buffersAfter (view r) limit lent .starts) ≡ Accepted e
   unfolding Promised
   finished-accepted e finished = held-accepted e (promised (Finished e) finished .shown)
 
   -- and so is the best plan of one that has not
-  pub unfinished-accepted : (e : ℕ) → answer .outcome ≡ Unfinished e → startsReply (view r) (startsAfter (view r) limit starts order) ≡ Accepted e
+  pub unfinished-accepted : (e : ℕ) → answer .outcome ≡ Unfinished e → startsReply (view r) (buffersAfter (view r) limit lent .starts) ≡ Accepted e
   unfolding Promised
   unfinished-accepted e unfinished = held-accepted e (promised (Unfinished e) unfinished .shown)

@@ -25,29 +25,35 @@ abbrev pub _refuses_at_ : Call → ℕ → ℕ → Case
 call refuses number at place = call gives says (number, place ∷ []) []
 
 infix 20 _refuses_at_
--- all lines, c1 to c12. Of a search the values are the outcome's number (1 finished, 2 nothing fits, 3 unfinished), the end, the bound, the
+-- no blocker
+abbrev none : ℕ
+none = 65535
+
+-- all lines, c1 to c12, and behind c4 a 13 with its blocker. Of a search the values are the outcome's number (1 finished, 2 nothing fits, 3 unfinished), the end, the bound, the
 -- steps, the orders reached and ruled out; of a block's frequency n, m and MHz; of a block its start and its width.
 abbrev pub table : List Case
 table =
     -- c1: R in listing order
-    (first-fit (R 384 0) (0 ∷ 1 ∷ 2 ∷ []) gives says (0, 6 ∷ []) ((0 ∷ 2 ∷ 3 ∷ 7 ∷ []) ∷ []))
+    (first-fit (R 384 0) (0 ∷ 1 ∷ 2 ∷ []) gives says (0, 6 ∷ []) ((0 ∷ 2 ∷ 3 ∷ 7 ∷ []) ∷ (none ∷ 0 ∷ 1 ∷ 7 ∷ []) ∷ []))
     ∷ (bound (R 384 0) answers (4 ∷ []))
     -- c2: R searched, limit 5
-    ∷ (search (R 384 0) 5 gives says (0, 1 ∷ 4 ∷ 4 ∷ 5 ∷ 2 ∷ 0 ∷ []) ((0 ∷ 3 ∷ 0 ∷ 7 ∷ []) ∷ (0 ∷ 2 ∷ 1 ∷ 7 ∷ []) ∷ []))
+    ∷ (search (R 384 0) 5 gives says (0, 1 ∷ 4 ∷ 4 ∷ 5 ∷ 2 ∷ 0 ∷ []) ((0 ∷ 3 ∷ 0 ∷ 7 ∷ []) ∷ (0 ∷ 2 ∷ 1 ∷ 7 ∷ []) ∷ (none ∷ 2 ∷ none ∷ 7 ∷ []) ∷ []))
     -- c3: one step less
-    ∷ (search (R 384 0) 4 gives says (0, 3 ∷ 6 ∷ 4 ∷ 4 ∷ 1 ∷ 0 ∷ []) ((0 ∷ 2 ∷ 3 ∷ 7 ∷ []) ∷ (0 ∷ 1 ∷ 2 ∷ 7 ∷ []) ∷ []))
+    ∷ (search (R 384 0) 4 gives says (0, 3 ∷ 6 ∷ 4 ∷ 4 ∷ 1 ∷ 0 ∷ []) ((0 ∷ 2 ∷ 3 ∷ 7 ∷ []) ∷ (0 ∷ 1 ∷ 2 ∷ 7 ∷ []) ∷ (none ∷ 0 ∷ 1 ∷ 7 ∷ []) ∷ []))
     -- c4: R in a band of 3 slots
-    ∷ (search (R 3 0) 1000000 gives says (0, 2 ∷ 0 ∷ 4 ∷ 0 ∷ 0 ∷ 6 ∷ []) ((7 ∷ 7 ∷ 7 ∷ 7 ∷ []) ∷ (7 ∷ 7 ∷ 7 ∷ 7 ∷ []) ∷ []))
+    ∷ (search (R 3 0) 1000000 gives says (0, 2 ∷ 0 ∷ 4 ∷ 0 ∷ 0 ∷ 6 ∷ []) ((7 ∷ 7 ∷ 7 ∷ 7 ∷ []) ∷ (7 ∷ 7 ∷ 7 ∷ 7 ∷ []) ∷ (7 ∷ 7 ∷ 7 ∷ 7 ∷ []) ∷ []))
+    -- R in a band of 3 slots by first fit: demand 2 is as wide as the band, and demand 1 stands in its way at slot 0
+    ∷ (first-fit (R 3 0) (0 ∷ 1 ∷ 2 ∷ []) gives says (13, 2 ∷ 1 ∷ []) ((7 ∷ 7 ∷ 7 ∷ 7 ∷ []) ∷ (7 ∷ 7 ∷ 7 ∷ 7 ∷ []) ∷ []))
     -- c5: R with guard 1
     ∷ (bound (R 384 1) answers (5 ∷ []))
-    ∷ (first-fit (R 384 1) (0 ∷ 1 ∷ 2 ∷ []) gives says (0, 8 ∷ []) ((0 ∷ 3 ∷ 5 ∷ 7 ∷ []) ∷ []))
-    ∷ (search (R 384 1) 1000000 gives says (0, 1 ∷ 5 ∷ 5 ∷ 5 ∷ 2 ∷ 0 ∷ []) ((0 ∷ 4 ∷ 0 ∷ 7 ∷ []) ∷ (0 ∷ 2 ∷ 1 ∷ 7 ∷ []) ∷ []))
+    ∷ (first-fit (R 384 1) (0 ∷ 1 ∷ 2 ∷ []) gives says (0, 8 ∷ []) ((0 ∷ 3 ∷ 5 ∷ 7 ∷ []) ∷ (none ∷ 0 ∷ 1 ∷ 7 ∷ []) ∷ []))
+    ∷ (search (R 384 1) 1000000 gives says (0, 1 ∷ 5 ∷ 5 ∷ 5 ∷ 2 ∷ 0 ∷ []) ((0 ∷ 4 ∷ 0 ∷ 7 ∷ []) ∷ (0 ∷ 2 ∷ 1 ∷ 7 ∷ []) ∷ (none ∷ 2 ∷ none ∷ 7 ∷ []) ∷ []))
     -- c6: T, whose bound cannot be reached
     ∷ (bound (T 384) answers (2 ∷ []))
-    ∷ (search (T 384) 15 gives says (0, 1 ∷ 3 ∷ 2 ∷ 15 ∷ 6 ∷ 0 ∷ []) ((0 ∷ 1 ∷ 2 ∷ 7 ∷ []) ∷ (0 ∷ 1 ∷ 2 ∷ 7 ∷ []) ∷ []))
-    ∷ (search (T 384) 14 gives says (0, 3 ∷ 3 ∷ 2 ∷ 14 ∷ 5 ∷ 0 ∷ []) ((0 ∷ 1 ∷ 2 ∷ 7 ∷ []) ∷ (0 ∷ 1 ∷ 2 ∷ 7 ∷ []) ∷ []))
+    ∷ (search (T 384) 15 gives says (0, 1 ∷ 3 ∷ 2 ∷ 15 ∷ 6 ∷ 0 ∷ []) ((0 ∷ 1 ∷ 2 ∷ 7 ∷ []) ∷ (0 ∷ 1 ∷ 2 ∷ 7 ∷ []) ∷ (none ∷ 0 ∷ 1 ∷ 7 ∷ []) ∷ []))
+    ∷ (search (T 384) 14 gives says (0, 3 ∷ 3 ∷ 2 ∷ 14 ∷ 5 ∷ 0 ∷ []) ((0 ∷ 1 ∷ 2 ∷ 7 ∷ []) ∷ (0 ∷ 1 ∷ 2 ∷ 7 ∷ []) ∷ (none ∷ 0 ∷ 1 ∷ 7 ∷ []) ∷ []))
     -- c7: T in a band of 2 slots
-    ∷ (search (T 2) 1000000 gives says (0, 2 ∷ 0 ∷ 2 ∷ 15 ∷ 6 ∷ 0 ∷ []) ((7 ∷ 7 ∷ 7 ∷ 7 ∷ []) ∷ (7 ∷ 7 ∷ 7 ∷ 7 ∷ []) ∷ []))
+    ∷ (search (T 2) 1000000 gives says (0, 2 ∷ 0 ∷ 2 ∷ 15 ∷ 6 ∷ 0 ∷ []) ((7 ∷ 7 ∷ 7 ∷ 7 ∷ []) ∷ (7 ∷ 7 ∷ 7 ∷ 7 ∷ []) ∷ (7 ∷ 7 ∷ 7 ∷ 7 ∷ []) ∷ []))
     -- c8: R's last demand put on its second
     ∷ (check-starts (R 384 0) (0 ∷ 2 ∷ 2 ∷ []) refuses 18 at 2)
     -- c9: guard 1, width 2 at slot 0: start 2 clashes, start 3 does not

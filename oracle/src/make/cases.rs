@@ -1,6 +1,7 @@
 //! A list of calls in the making, and the usual arguments a call gets beside its request.
 
 use crate::frames::Call;
+use crate::one::One;
 use crate::request::{Band, Request};
 use crate::request_file::request_bytes;
 
@@ -26,13 +27,17 @@ impl Cases {
         self.calls.push(Call::Bound { request: request.clone() });
     }
 
+    /// First fit with the same room in both buffers.
     pub fn place(&mut self, room: usize, order: &[usize], request: &Request) {
-        self.calls.push(Call::FirstFit { room, order: order.to_vec(), request: request.clone() });
+        self.place_in([room; 2], order, request);
     }
 
-    pub fn search(&mut self, limit: u64, rooms: (usize, usize), request: &Request) {
-        let request = request.clone();
-        self.calls.push(Call::Search { limit, starts_room: rooms.0, order_room: rooms.1, request });
+    pub fn place_in(&mut self, rooms: [usize; 2], order: &[usize], request: &Request) {
+        self.calls.push(Call::FirstFit { rooms, order: order.to_vec(), request: request.clone() });
+    }
+
+    pub fn search(&mut self, limit: u64, rooms: [usize; 3], request: &Request) {
+        self.calls.push(Call::Search { limit, rooms, request: request.clone() });
     }
 
     pub fn check(&mut self, starts: &[i64], request: &Request) {
@@ -55,6 +60,10 @@ impl Cases {
         self.calls.push(Call::Block { band: band.clone(), n, m });
     }
 
+    pub fn one(&mut self, one: One) {
+        self.calls.push(Call::PlaceOne { one });
+    }
+
     /// Every call that takes a request, with arguments that would do for a sound one.
     pub fn every_call(&mut self, request: &Request) {
         let count = request.demand_count.min(200);
@@ -62,8 +71,8 @@ impl Cases {
         self.sound(request);
         self.bound(request);
         self.write(request_bytes(request).len() + 2, request);
-        self.place(count + 1, &order, request);
-        self.search(10, (count, count + 1), request);
+        self.place_in([count + 1, count], &order, request);
+        self.search(10, [count, count + 1, count], request);
         self.check(&vec![0; count], request);
         self.read_plan(count, &[], request);
         self.write_plan(7 * count + 1, &vec![0; count], request);
@@ -75,7 +84,7 @@ impl Cases {
         self.write(3, request);
         self.place(0, &[7; 2], request);
         self.place(0, &(0..count).collect::<Vec<_>>(), request);
-        self.search(0, (0, 0), request);
+        self.search(0, [0; 3], request);
         self.check(&[], request);
         self.check(&vec![65535; count], request);
         self.read_plan(0, &[4; 3], request);

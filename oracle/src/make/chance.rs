@@ -3,6 +3,8 @@
 use super::cases::Cases;
 use super::damage::{damage_file, damage_request, damage_starts};
 use super::dice::Dice;
+use super::ones::random_one;
+use super::shapes::{ring, wedged};
 use crate::bound::bound;
 use crate::brute::plans_to_try;
 use crate::fields::put_field;
@@ -30,14 +32,14 @@ pub fn small_searches(seed: u64, count: usize) -> Cases {
         let request = small_request(&mut dice);
         let soon = request.demand_count + dice.below(12);
         let limit = dice.pick(&[soon as u64, 10_000, 10_000, 10_000]);
-        cases.search(limit, (request.demand_count, request.demand_count), &request);
+        cases.search(limit, [request.demand_count; 3], &request);
     }
     cases
 }
 
 fn random_call(cases: &mut Cases, dice: &mut Dice) {
     let request = random_request(dice);
-    match dice.below(16) {
+    match dice.below(18) {
         0 | 1 => random_file(cases, dice, &request),
         2 => cases.sound(&request),
         3 => {
@@ -58,14 +60,16 @@ fn random_call(cases: &mut Cases, dice: &mut Dice) {
             cases.write_plan(room, &starts, &request);
         }
         14 => random_frequency(cases, dice),
-        _ => random_block(cases, dice),
+        15 => random_block(cases, dice),
+        _ => cases.one(random_one(dice)),
     }
 }
 
 /// Mostly sound, mostly small.
 fn random_request(dice: &mut Dice) -> Request {
     let mut request = match dice.below(24) {
-        0..=13 => small_request(dice),
+        0..=12 => small_request(dice),
+        13 => wedged_request(dice),
         14..=21 => middling_request(dice),
         22 => request_of(dice, (1, 384), (1, 12), (19, 22)),
         _ if dice.one_in(8) => large_request(dice),
@@ -94,17 +98,26 @@ pub fn small_request(dice: &mut Dice) -> Request {
 
 /// Whether the walk goes through the whole tree.
 fn whole_tree(request: &Request) -> bool {
-    let mut buffer = [[0; 20]; 2];
-    let [starts, order] = &mut buffer;
-    let found = search(request, 10_000, starts, order, &Rules::right());
+    let [mut starts, mut order, mut blockers] = [[0; 20]; 3];
+    let found = search(request, 10_000, &mut starts, &mut order, &mut blockers, &Rules::right());
     found.is_ok_and(|found| found.steps > 0 && found.end != found.bound)
+}
+
+/// Demands wedged in, every other time with two of them listed the other way round.
+fn wedged_request(dice: &mut Dice) -> Request {
+    let mut request = wedged(dice.pick(&[0, 0, 1, 2]), dice.between(-1, 3));
+    if dice.one_in(2) {
+        let (one, other) = (dice.below(5), dice.below(5));
+        request.demands.swap(one, other);
+    }
+    request
 }
 
 /// Routes of up to three links round a ring, and a band from one slot less than the bound to three more.
 fn tight_request(dice: &mut Dice) -> Request {
     let nodes = dice.between(3, 5) as usize;
     let guard = dice.pick(&[0, 0, 0, 1, 2]);
-    let mut request = Request::new(Band::new(dice.between(-400, 400), 1, guard), super::shapes::ring(nodes), vec![]);
+    let mut request = Request::new(Band::new(dice.between(-400, 400), 1, guard), ring(nodes), vec![]);
     for at in 0..dice.between(3, 6) {
         let first = dice.below(nodes);
         let hops = dice.pick(&[1, 2, 2, 2, 3]);
@@ -149,7 +162,7 @@ fn request_of(dice: &mut Dice, slots: (i64, i64), links: (i64, i64), demands: (i
 /// Links between few nodes; every other time the first of them run round.
 fn random_links(dice: &mut Dice, (least, most): (i64, i64)) -> Vec<(u8, u8)> {
     let nodes = dice.between(2, 5);
-    let mut links: Vec<(u8, u8)> = if dice.one_in(2) { super::shapes::ring(nodes as usize) } else { vec![] };
+    let mut links: Vec<(u8, u8)> = if dice.one_in(2) { ring(nodes as usize) } else { vec![] };
     for _ in 0..most {
         links.push(random_link(dice, nodes));
     }
@@ -203,6 +216,17 @@ fn random_room(dice: &mut Dice, need: usize) -> usize {
     }
 }
 
+/// One of them now and then, or all, by chance; else what is needed.
+fn random_rooms<const COUNT: usize>(dice: &mut Dice, need: usize) -> [usize; COUNT] {
+    let mut rooms = [need; COUNT];
+    match dice.below(8) {
+        0 => rooms = rooms.map(|need| random_room(dice, need)),
+        1 | 2 => rooms[dice.below(COUNT)] = random_room(dice, need),
+        _ => {}
+    }
+    rooms
+}
+
 fn random_file(cases: &mut Cases, dice: &mut Dice, request: &Request) {
     let mut file = request_bytes(request);
     while dice.one_in(2) {
@@ -228,8 +252,8 @@ fn random_order(cases: &mut Cases, dice: &mut Dice, request: &Request) {
         }
         _ => {}
     }
-    let room = random_room(dice, request.demands.len());
-    cases.place(room, &order, request);
+    let rooms = random_rooms(dice, request.demands.len());
+    cases.place_in(rooms, &order, request);
 }
 
 fn random_search(cases: &mut Cases, dice: &mut Dice, request: &Request) {
@@ -237,7 +261,7 @@ fn random_search(cases: &mut Cases, dice: &mut Dice, request: &Request) {
     let few = dice.below(10) as u64;
     let soon = (count + dice.below(40)) as u64;
     let limit = dice.pick(&[few, soon, soon, 300, 2_000, 2_000]);
-    let rooms = if dice.one_in(6) { (random_room(dice, count), random_room(dice, count)) } else { (count, count) };
+    let rooms = random_rooms(dice, count);
     cases.search(limit, rooms, request);
 }
 
@@ -245,7 +269,8 @@ fn random_search(cases: &mut Cases, dice: &mut Dice, request: &Request) {
 fn random_starts(dice: &mut Dice, request: &Request) -> Vec<i64> {
     let order = random_permutation(dice, request.demands.len());
     let mut found = vec![0; request.demands.len()];
-    let placed = first_fit(request, &order, &mut found, &Rules::right());
+    let mut blockers = found.clone();
+    let placed = first_fit(request, &order, &mut found, &mut blockers, &Rules::right());
     let mut starts: Vec<i64> = found.into_iter().map(|start| start as i64).collect();
     if placed.is_err() {
         starts = starts.iter().map(|_| dice.between(0, request.band.slots)).collect();

@@ -1,7 +1,9 @@
 //! Calls whose frames are as long as they get, and buffers as long as may be lent.
 
 use super::cases::Cases;
+use super::ones::packed;
 use super::shapes::{largest, stack};
+use crate::one::One;
 
 const COUNT_MOST: usize = 65_535;
 const ROOM_MOST: usize = 8_192;
@@ -16,7 +18,7 @@ pub fn longest_cases() -> Cases {
     cases.bound(&request);
     cases.write(ROOM_MOST, &request);
     cases.place(ROOM_MOST, &vec![0; COUNT_MOST], &request);
-    cases.search(10, (ROOM_MOST, ROOM_MOST), &request);
+    cases.search(10, [ROOM_MOST; 3], &request);
     cases.check(&vec![0; COUNT_MOST], &request);
     cases.read_plan(ROOM_MOST, &vec![4; COUNT_MOST], &request);
     cases.write_plan(ROOM_MOST, &vec![0; COUNT_MOST], &request);
@@ -32,5 +34,6 @@ fn longest_accepted(cases: &mut Cases) {
     cases.place(ROOM_MOST, &order, &request);
     cases.check(&starts, &request);
     cases.write_plan(ROOM_MOST, &starts, &request);
-    cases.search(200, (ROOM_MOST, ROOM_MOST), &stack(20, 0, &[1; 20]));
+    cases.search(200, [ROOM_MOST; 3], &stack(20, 0, &[1; 20]));
+    cases.one(One { count: COUNT_MOST, ..packed(200, 300) });
 }

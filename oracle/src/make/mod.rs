@@ -1,5 +1,6 @@
 //! The making of cases: stored ones, shaped by hand, and ones by chance from a seed.
 
+mod blocking;
 mod cases;
 mod chance;
 mod damage;
@@ -9,6 +10,7 @@ mod fitting;
 mod grid;
 mod longest;
 mod memory;
+mod ones;
 mod planning;
 mod searching;
 pub mod shapes;
@@ -25,6 +27,8 @@ pub fn stored() -> Vec<Call> {
     files::file_cases(&mut cases);
     memory::memory_cases(&mut cases);
     fitting::fitting_cases(&mut cases);
+    blocking::blocking_cases(&mut cases);
+    ones::one_cases(&mut cases);
     planning::planning_cases(&mut cases);
     grid::grid_cases(&mut cases);
     searching::searching_cases(&mut cases);

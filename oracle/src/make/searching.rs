@@ -24,12 +24,12 @@ pub fn searching_cases(cases: &mut Cases) {
 /// The long walks stand apart, so that they can come last.
 pub fn long_cases(cases: &mut Cases) {
     for limit in [2_000, 20_000] {
-        cases.search(limit, (20, 20), &nested(20, 60));
+        cases.search(limit, [20; 3], &nested(20, 60));
     }
-    cases.search(MOST, (7, 7), &round(7, 3, 0));
+    cases.search(MOST, [7; 3], &round(7, 3, 0));
     let wider = changed(&round(7, 20, 1), |request| request.demands[0].width = 2);
     around_exact(cases, &wider);
-    cases.search(100_000, (20, 20), &nested(20, 40));
+    cases.search(100_000, [20; 3], &nested(20, 40));
 }
 
 /// Demands over one, two and three links of a ring, of changing widths: far from the bound.
@@ -43,15 +43,14 @@ fn nested(count: usize, slots: i64) -> Request {
 
 /// How many steps the search takes without a limit that matters.
 fn steps_of(request: &Request) -> u64 {
-    let mut buffer = [[0; 20]; 2];
-    let [starts, order] = &mut buffer;
-    search(request, MOST, starts, order, &Rules::right()).map_or(0, |found| found.steps)
+    let [mut starts, mut order, mut blockers] = [[0; 20]; 3];
+    search(request, MOST, &mut starts, &mut order, &mut blockers, &Rules::right()).map_or(0, |found| found.steps)
 }
 
 fn with_limits(cases: &mut Cases, request: &Request, limits: &[u64]) {
     let count = request.demand_count;
     for &limit in limits {
-        cases.search(limit, (count, count), request);
+        cases.search(limit, [count; 3], request);
     }
 }
 
@@ -70,27 +69,27 @@ fn worked_limits(cases: &mut Cases) {
 
 fn no_demands(cases: &mut Cases) {
     for limit in [0, 1, MOST] {
-        cases.search(limit, (0, 0), &bare(Band::new(-400, 1, 8)));
-        cases.search(limit, (2, 1), &bare(Band::new(400, 384, 0)));
+        cases.search(limit, [0; 3], &bare(Band::new(-400, 1, 8)));
+        cases.search(limit, [2, 1, 2], &bare(Band::new(400, 384, 0)));
     }
 }
 
 fn one_demand(cases: &mut Cases) {
     for limit in [0, 1, 2] {
-        cases.search(limit, (1, 1), &stack(1, 8, &[1]));
-        cases.search(limit, (1, 2), &stack(384, 8, &[384]));
-        cases.search(limit, (2, 1), &stack(5, 0, &[3]));
+        cases.search(limit, [1; 3], &stack(1, 8, &[1]));
+        cases.search(limit, [1, 2, 1], &stack(384, 8, &[384]));
+        cases.search(limit, [2, 1, 2], &stack(5, 0, &[3]));
     }
 }
 
 fn nothing_fits(cases: &mut Cases) {
     for limit in [0, 1, 1_000] {
-        cases.search(limit, (3, 3), &worked(3, 0));
-        cases.search(limit, (3, 4), &worked(4, 1));
-        cases.search(limit, (20, 20), &stack(384, 8, &[20; 20]));
+        cases.search(limit, [3; 3], &worked(3, 0));
+        cases.search(limit, [3, 4, 3], &worked(4, 1));
+        cases.search(limit, [20; 3], &stack(384, 8, &[20; 20]));
     }
     for count in [19, 20] {
-        cases.search(7, (20, 20), &stack(1, 0, &vec![1; count]));
+        cases.search(7, [20; 3], &stack(1, 0, &vec![1; count]));
     }
     around_exact(cases, &triangle(2));
     around_exact(cases, &round(5, 2, 0));
@@ -139,15 +138,19 @@ fn bound_before_the_last() -> Request {
 }
 
 fn rooms(cases: &mut Cases) {
-    for rooms in [(0, 0), (2, 3), (3, 2), (3, 3), (5, 3), (3, 5), (6, 7)] {
-        cases.search(100, rooms, &worked(384, 0));
+    for starts in [0, 2, 3, 5] {
+        for order in [0, 2, 3, 6] {
+            for blockers in [0, 2, 3, 7] {
+                cases.search(100, [starts, order, blockers], &worked(384, 0));
+            }
+        }
     }
-    for rooms in [(0, 0), (3, 2), (2, 3)] {
+    for rooms in [[0, 0, 0], [3, 3, 2], [3, 2, 3], [2, 3, 3], [3, 2, 2], [2, 3, 2]] {
         cases.search(0, rooms, &worked(384, 0));
         cases.search(9, rooms, &worked(3, 0));
         cases.search(99, rooms, &triangle(2));
     }
-    for rooms in [(20, 20), (19, 20), (20, 19), (21, 21), (0, 0)] {
+    for rooms in [[20; 3], [19, 20, 20], [20, 19, 20], [20, 20, 19], [21; 3], [0; 3]] {
         cases.search(20, rooms, &apart(20, 1));
         cases.search(20, rooms, &apart(21, 1));
     }
@@ -160,7 +163,7 @@ fn twenty(cases: &mut Cases) {
     with_limits(cases, &nested(20, 60), &[19, 20, 21, 500]);
     with_limits(cases, &nested(20, 38), &[300, 1_000]);
     for count in [21, 200] {
-        cases.search(20, (200, 200), &stack(384, 0, &vec![1; count]));
+        cases.search(20, [200; 3], &stack(384, 0, &vec![1; count]));
     }
 }
 
@@ -181,9 +184,8 @@ fn by_chance(cases: &mut Cases) {
 /// 0 for a plan above the bound, 1 for a plan whose order turns three demands round, 2 for nothing that fits after
 /// a walk, 3 for the rest.
 fn kind_of(request: &Request) -> usize {
-    let mut buffer = [[0; 20]; 2];
-    let [starts, order] = &mut buffer;
-    let Ok(found) = search(request, MOST, starts, order, &Rules::right()) else { return 3 };
+    let [mut starts, mut order, mut blockers] = [[0; 20]; 3];
+    let Ok(found) = search(request, MOST, &mut starts, &mut order, &mut blockers, &Rules::right()) else { return 3 };
     let turned = (0..request.demand_count).any(|at| order[order[at] as usize] as usize != at);
     match found.outcome {
         Outcome::Finished if found.end > found.bound => 0,

@@ -50,6 +50,20 @@ pub fn largest() -> Request {
     Request::new(Band::new(-400, 384, 8), line(64), (0..200).map(demand).collect())
 }
 
+/// Three full links with one best end, at the bound. The first demand must not be placed first: it has to stand on the fourth
+/// and below the third, which the second pushes up.
+pub fn wedged(guard: i64, room: i64) -> Request {
+    let end = 5 + 2 * guard;
+    let demands = vec![
+        Demand::new(1, 1, &[1]),
+        Demand::new(2, 2 + guard, &[0]),
+        Demand::new(3, end - 2 - 2 * guard, &[0, 1]),
+        Demand::new(4, 1, &[1, 2]),
+        Demand::new(5, end - 1 - guard, &[2]),
+    ];
+    Request::new(Band::new(9, end + room, guard), line(3), demands)
+}
+
 /// A request without demands.
 pub fn bare(band: Band) -> Request {
     Request::new(band, line(1), vec![])
@@ -90,7 +104,7 @@ pub fn with_hops(mut request: Request, position: usize, hops: usize) -> Request 
     demand.hops = hops;
     demand.route.truncate(hops);
     for _ in demand.route.len()..hops.min(32) {
-        let next = demand.route.last().map_or(0, |&link| link + 1);
+        let next = demand.route.last().map_or(0, |&link| (link + 1) % 256);
         demand.route.push(next);
     }
     request

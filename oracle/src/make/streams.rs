@@ -3,6 +3,7 @@
 use super::chance::random_cases;
 use super::dice::Dice;
 use super::longest::longest_cases;
+use super::ones::packed;
 use super::shapes::worked;
 use crate::frames::{call_of, frame_of, framed, next_frame, Call};
 use crate::request::{Band, Request};
@@ -43,7 +44,7 @@ pub fn damaged(seed: u64, count: usize) -> Vec<Vec<u8>> {
 }
 
 fn unknown_ops() -> Vec<Vec<u8>> {
-    [0x00, 0x0C, 0x7F, 0xFF].iter().flat_map(|&op| [framed(op, &[]), framed(op, &[0; 40])]).collect()
+    [0x00, 0x0C, 0x1F, 0x21, 0x7F, 0xFF].iter().flat_map(|&op| [framed(op, &[]), framed(op, &[0; 40])]).collect()
 }
 
 /// A call of each op but the first, whose body can have any length.
@@ -54,13 +55,14 @@ fn one_of_each(request: &Request) -> Vec<Call> {
         Call::Sound { request: request.clone() },
         Call::WriteRequest { room: 43, request: request.clone() },
         Call::Bound { request: request.clone() },
-        Call::FirstFit { room: 3, order: vec![2, 1, 0], request: request.clone() },
-        Call::Search { limit: 5, starts_room: 3, order_room: 3, request: request.clone() },
+        Call::FirstFit { rooms: [3, 4], order: vec![2, 1, 0], request: request.clone() },
+        Call::Search { limit: 5, rooms: [3; 3], request: request.clone() },
         Call::Check { starts: vec![0, 3, 0], request: request.clone() },
         Call::ReadPlan { room: 3, file: vec![4, 0, 4, 0, 10, 0, 0], request: request.clone() },
         Call::WritePlan { room: 21, starts: vec![0, 3, 0], request },
         Call::Frequency { band: band.clone(), start: 0, width: 2 },
         Call::Block { band, n: -282, m: 2 },
+        Call::PlaceOne { one: packed(3, 20) },
     ]
 }
 
@@ -82,9 +84,11 @@ fn too_much_room() -> Vec<Vec<u8>> {
         let request = request.clone();
         calls.extend([
             Call::WriteRequest { room, request: request.clone() },
-            Call::FirstFit { room, order: vec![0, 1, 2], request: request.clone() },
-            Call::Search { limit: 5, starts_room: room, order_room: 3, request: request.clone() },
-            Call::Search { limit: 5, starts_room: 3, order_room: room, request: request.clone() },
+            Call::FirstFit { rooms: [room, 3], order: vec![0, 1, 2], request: request.clone() },
+            Call::FirstFit { rooms: [3, room], order: vec![0, 1, 2], request: request.clone() },
+            Call::Search { limit: 5, rooms: [room, 3, 3], request: request.clone() },
+            Call::Search { limit: 5, rooms: [3, room, 3], request: request.clone() },
+            Call::Search { limit: 5, rooms: [3, 3, room], request: request.clone() },
             Call::ReadPlan { room, file: vec![], request: request.clone() },
             Call::WritePlan { room, starts: vec![0, 3, 0], request },
         ]);
@@ -97,7 +101,7 @@ fn overlong() -> Vec<Vec<u8>> {
     let longest = longest_cases().calls;
     let longer = longest.iter().map(frame_of).filter(|frame| frame[0] != 0x01);
     let mut frames: Vec<Vec<u8>> = longer.map(|frame| framed(frame[0], &[&frame[5..], &[0]].concat())).collect();
-    frames.extend((0x02..=0x0B).map(|op| framed(op, &[0; 200_000])));
+    frames.extend((0x02..=0x0B).chain([0x20]).map(|op| framed(op, &[0; 200_000])));
     frames
 }
 
@@ -117,7 +121,8 @@ fn damaged_frame(frame: &[u8], dice: &mut Dice) -> Vec<u8> {
     while dice.one_in(2) {
         damage_bytes(&mut body, dice);
     }
-    let op = if dice.one_in(10) { dice.below(13) as u8 } else { frame[0] };
+    let other = if dice.one_in(8) { 0x20 } else { dice.below(13) as u8 };
+    let op = if dice.one_in(10) { other } else { frame[0] };
     framed(op, &body)
 }
 

@@ -1,26 +1,58 @@
 -- `placing::first_fit` meets its contract. Assumes nothing.
-use Prim.Native.Nat.{ℕ}
-use mathlib.Core.Path.{sym, _∙_}
+use Prim.Native.Nat.{ℕ, _≤_}
+use mathlib.Core.List.{List, [], _∷_, List·Memᴰ·head, List·Memᴰ·tail}
+use mathlib.Core.Path.{_≡_, refl, sym, ap, _∙_}
 use native.Mathlib.Omega.{arith}
-use lib.ListN.{length, length-replicate}
+use lib.ListN.{length, length-replicate, getD-replicate}
 use lib.Seq.{length-take-le}
 use borrow.Author.Needs.{needs}
-use Rattle.request.specs.View.{view}
+use Rattle.request.specs.declared.Checked.the-variants as checked
+use Rattle.request.specs.View.{View, view}
 use Rattle.request.specs.SoundLaws.{check-sound, whole-counted}
+use Rattle.request.specs.inner.Limits.{Limits}
 use Rattle.request.specs.LimitsLaws.{checked-limits}
-use Rattle.request.specs.Sharing.{problemOf}
 use Rattle.request.proofs.Arrays.{whole}
-use Rattle.lent.specs.LentLaws.{room-held}
 use Rattle.placing.specs.declared.PlacedReply.the-variants as placed-reply
-use Rattle.placing.specs.FirstFit.{fitted}
+use Rattle.placing.specs.FirstFit.{checkFirstFit, fitted}
+use Rattle.placing.specs.inner.Placement.{PlanKept}
 use Rattle.placing.specs.PlacementLaws.{clean-slate}
-use Rattle.placing.specs.OrderLaws.{order-counts, order-positions}
-use Rattle.placing.specs.FirstFitLaws.{request-refused, order-refused, room-refused, all-pass, tests-refuse, fitted-answers, fitted-writes, end-placed, refusal-keeps, front-fitted}
+use Rattle.placing.specs.OrderLaws.{order-positions}
+use Rattle.placing.specs.FirstFitLaws.{tests-refuse, tests-keep-starts, tests-keep-blockers, fitted-answers, fitted-writes, fitted-names, fitting-tested, end-placed, blocked-keeps-starts, blocked-keeps-blockers, starts-fitted, blockers-fitted}
+use Rattle.placing.specs.PromiseLaws.{request-sound, order-sound, order-once, room-enough}
 use Rattle.placing.proofs.first_fit.Statement.{statement}
 use Rattle.placing.proofs.first_fit.Tie as tie
 
-check-request-requires : tie.Need-check-request-requires
-check-request-requires c κs = search needs
+-- the rooms of the buffers that were lent
+abbrev roomsOf : tie.Start → List ℕ
+roomsOf start = length (start .args .starts .now) ∷ length (start .args .blockers .now) ∷ []
+
+-- the tests passed
+tested : (c : tie.After-enum-told) →
+    checkFirstFit (view (c .before .before .before .before .before .before .args .request)) (c .before .before .before .before .before .before .args .order .now) (roomsOf (c .before .before .before .before .before .before)) ≡ checked.Sound
+unfolding view
+tested c = sym (c .before .before .check-first-fit .ensures) ∙ c .enum-told .given .1
+
+-- the request's numbers are small
+small : (c : tie.After-enum-told) → Limits (view (c .before .before .before .before .before .before .args .request))
+small c =
+    let start = c .before .before .before .before .before .before in
+    checked-limits (start .args .request) (whole (start .args .request) _ (start .good .0))
+    (request-sound (view (start .args .request)) (start .args .order .now) (roomsOf start) (tested c))
+
+-- both buffers have room
+starts-room : (c : tie.After-enum-told) → view (c .before .before .before .before .before .before .args .request) .demandCount ≤ length (c .before .before .before .before .before .before .args .starts .now)
+starts-room c =
+    let start = c .before .before .before .before .before .before in
+    room-enough (view (start .args .request)) (start .args .order .now) (roomsOf start) (tested c) (length (start .args .starts .now)) (List·Memᴰ·head refl)
+
+blockers-room : (c : tie.After-enum-told) → view (c .before .before .before .before .before .before .args .request) .demandCount ≤ length (c .before .before .before .before .before .before .args .blockers .now)
+blockers-room c =
+    let start = c .before .before .before .before .before .before in
+    room-enough (view (start .args .request)) (start .args .order .now) (roomsOf start) (tested c) (length (start .args .blockers .now))
+    (List·Memᴰ·tail (List·Memᴰ·head refl))
+
+check-first-fit-requires : tie.Need-check-first-fit-requires
+check-first-fit-requires c κs = search needs
 
 enum-known-checked : tie.Need-enum-known-checked
 enum-known-checked c = search needs
@@ -28,83 +60,39 @@ enum-known-checked c = search needs
 returns : tie.Need-returns
 unfolding view
 returns c =
-    let start = c .before .before .before .before .before .before in
+    let start = c .before .before .before .before .before .before .before in
     let v = view (start .args .request) in
     let order = start .args .order .now in
-    let starts = start .args .starts .now in
     let why = c .before .checked .given .0 .0 in
-    tests-refuse v order starts why (request-refused v order starts why (sym (c .before .before .before .check-request .ensures) ∙ c .before .checked .given .1))
+    let fails = sym (c .before .before .before .check-first-fit .ensures) ∙ c .before .checked .given .1 in (
+      tests-refuse v order (roomsOf start) why fails,
+      (
+        tests-keep-starts v order (roomsOf start) why fails (start .args .starts .now),
+        tests-keep-blockers v order (roomsOf start) why fails (start .args .blockers .now),
+      ),
+    )
 
 enum-told : tie.Need-enum-told
 enum-told c = search needs
 
-check-order-requires : tie.Need-check-order-requires
-unfolding view
-check-order-requires c κs =
-    let start = c .before .before .before .before .before in
-    checked-limits (start .args .request) (whole (start .args .request) _ (start .good .0))
-    (sym (c .before .before .check-request .ensures) ∙ c .enum-told .given .1) .most-demands
-
-enum-known-ordered : tie.Need-enum-known-ordered
-enum-known-ordered c = search needs
-
-returns-2 : tie.Need-returns-2
-unfolding view
-returns-2 c =
-    let start = c .before .before .before .before .before .before .before .before .before in
-    let v = view (start .args .request) in
-    let order = start .args .order .now in
-    let starts = start .args .starts .now in
-    let passes = sym (c .before .before .before .before .before .before .check-request .ensures) ∙ c .before .before .before .before .enum-told .given .1 in
-    let why = c .before .ordered .given .0 .0 in
-    tests-refuse v order starts why
-    (order-refused v order starts passes why (sym (c .before .before .before .check-order .ensures) ∙ c .before .ordered .given .1))
-
-enum-told-2 : tie.Need-enum-told-2
-enum-told-2 c = search needs
-
-check-room-requires : tie.Need-check-room-requires
-check-room-requires c κs = search needs
-
-enum-known-roomy : tie.Need-enum-known-roomy
-enum-known-roomy c = search needs
-
-returns-3 : tie.Need-returns-3
-unfolding view
-returns-3 c =
-    let start = c .before .before .before .before .before .before .before .before .before .before .before .before in
-    let v = view (start .args .request) in
-    let order = start .args .order .now in
-    let starts = start .args .starts .now in
-    let passes = sym (c .before .before .before .before .before .before .before .before .before .check-request .ensures) ∙ c .before .before .before .before .before .before .before .enum-told .given .1 in
-    let ordered = sym (c .before .before .before .before .before .before .check-order .ensures) ∙ c .before .before .before .before .enum-told2 .given .1 in
-    let why = c .before .roomy .given .0 .0 in
-    tests-refuse v order starts why
-    (room-refused v order starts passes ordered why (sym (c .before .before .before .check-room .ensures) ∙ c .before .roomy .given .1))
-
-enum-told-3 : tie.Need-enum-told-3
-enum-told-3 c = search needs
-
 place-all-requires : tie.Need-place-all-requires
-unfolding view
 place-all-requires c κs =
-    let start = c .before .before .before .before .before .before .before .before .before .before .before .before in
+    let start = c .before .before .before .before .before .before .before .before in
     let v = view (start .args .request) in
     let order = start .args .order .now in
-    let passes = sym (c .before .before .before .before .before .before .before .before .before .check-request .ensures) ∙ c .before .before .before .before .before .before .before .enum-told .given .1 in
-    let ordered = sym (c .before .before .before .before .before .before .check-order .ensures) ∙ c .before .before .before .before .enum-told2 .given .1 in
-    let full = whole (start .args .request) _ (start .good .0) in
-    let limits = checked-limits (start .args .request) full passes in
+    let passes = request-sound v order (roomsOf start) (tested (c .before .before)) in
     record {
       asked =
           record {
-            sound = check-sound v (whole-counted (start .args .request) full) passes;
-            limits = limits;
-            so-many = omega (arith, order-counts (v .demandCount) order ordered, limits .most-demands);
-            positions = order-positions (v .demandCount) order ordered;
+            sound = check-sound v (whole-counted (start .args .request) (whole (start .args .request) _ (start .good .0))) passes;
+            limits = small (c .before .before);
+            positions = order-positions (v .demandCount) order (order-sound v order (roomsOf start) (tested (c .before .before)));
+            once = order-once v order (roomsOf start) (tested (c .before .before));
           };
-      full = length-replicate {A = ℕ} 200 0;
-      clean = clean-slate 200;
+      starts-full = length-replicate {A = ℕ} 200 0;
+      starts-clean = λ j h. clean-slate 200 j;
+      blockers-full = length-replicate {A = ℕ} 200 65535;
+      blockers-clean = λ j h. getD-replicate {A = ℕ} 200 j 65535 0 h;
     }
 
 enum-known-reply : tie.Need-enum-known-reply
@@ -112,95 +100,109 @@ enum-known-reply c = search needs
 
 array-share-prefix-at : tie.Need-array-share-prefix-at
 unfolding view
-array-share-prefix-at c =
-    let start = c .before .before .before .before .before .before .before .before .before .before .before .before .before .before .before .before in
-    omega (
-      arith,
-      checked-limits (start .args .request) (whole (start .args .request) _ (start .good .0))
-          (sym (c .before .before .before .before .before .before .before .before .before .before .before .before .before .check-request .ensures) ∙ c .before .before .before .before .before .before .before .before .before .before .before .enum-told .given .1) .most-demands,
-      c .before .before .before .place-all .ensures .1 .full,
-    )
+array-share-prefix-at c = omega (arith, small (c .before .before .before .before .before .before) .most-demands, c .before .before .before .place-all .ensures .1 .starts-full)
 
 slice-aggregate-write-front : tie.Need-slice-aggregate-write-front
 unfolding view
 slice-aggregate-write-front c =
-    let start = c .before .before .before .before .before .before .before .before .before .before .before .before .before .before .before .before .before in
-    sym (length-take-le _ _ (omega (
-      arith,
-      checked-limits (start .args .request) (whole (start .args .request) _ (start .good .0))
-          (sym (c .before .before .before .before .before .before .before .before .before .before .before .before .before .before .check-request .ensures) ∙ c .before .before .before .before .before .before .before .before .before .before .before .before .enum-told .given .1) .most-demands,
-      c .before .before .before .before .place-all .ensures .1 .full,
-    )))
+    sym (length-take-le _ _ (omega (arith, small (c .before .before .before .before .before .before .before) .most-demands, c .before .before .before .before .place-all .ensures .1 .starts-full)))
 
 write-front-requires : tie.Need-write-front-requires
 write-front-requires c κs = search needs
 
-enum-told-4 : tie.Need-enum-told-4
-enum-told-4 c = search needs
+array-share-prefix-by : tie.Need-array-share-prefix-by
+unfolding view
+array-share-prefix-by c = omega (arith, small (c .before .before .before .before .before .before .before .before .before .before .before) .most-demands, c .before .before .before .before .before .before .before .before .place-all .ensures .1 .blockers-full)
+
+slice-aggregate-write-front-2 : tie.Need-slice-aggregate-write-front-2
+unfolding view
+slice-aggregate-write-front-2 c =
+    sym (length-take-le _ _ (omega (arith, small (c .before .before .before .before .before .before .before .before .before .before .before .before) .most-demands, c .before .before .before .before .before .before .before .before .before .place-all .ensures .1 .blockers-full)))
+
+write-front-requires-2 : tie.Need-write-front-requires-2
+write-front-requires-2 c κs = search needs
+
+enum-known-reply-2 : tie.Need-enum-known-reply-2
+enum-known-reply-2 c = search needs
+
+enum-known-reply-3 : tie.Need-enum-known-reply-3
+enum-known-reply-3 c = search needs
 
 same-length : tie.Need-same-length
 same-length c = search needs
 
+same-length-2 : tie.Need-same-length-2
+same-length-2 c = search needs
+
+returns-2 : tie.Need-returns-2
+unfolding view
+returns-2 c =
+    let start = c .before .before .before .before .before .before .before .before .before .before .before .before .before .before .before .before .before .before .before .before .before .before in
+    let told = c .before .before .before .before .before .before .before .before .before .before .before .before .before .before .before .before in
+    let v = view (start .args .request) in
+    let order = start .args .order .now in
+    let end = c .before .before .before .before .before .before .before .before .before .before .before .reply .given .0 .0 in
+    let answer = sym (c .before .before .before .before .before .before .before .before .before .before .before .reply .given .1) ∙ c .before .before .before .before .before .before .before .before .before .before .before .before .before .place-all .ensures .0 in
+    let kept = c .before .before .before .before .before .before .before .before .before .before .before .before .before .place-all .ensures .1 in
+    let (rows, all) = end-placed v (fitted v order) end answer in (
+      answer ∙ sym (fitted-answers v order (roomsOf start) (tested told)),
+      (
+        c .before .before .before .before .before .before .before .write-front .ensures
+            ∙ starts-fitted v (fitted v order) rows _ _ (small told .most-demands) all kept (start .args .starts .now) (starts-room told)
+            ∙ sym (fitted-writes v order (roomsOf start) (tested told) (start .args .starts .now)),
+        c .before .before .write-front2 .ensures
+            ∙ blockers-fitted v (fitted v order) rows _ _ (small told .most-demands) all kept (start .args .blockers .now) (blockers-room told)
+            ∙ sym (fitted-names v order (roomsOf start) (tested told) (start .args .blockers .now)),
+      ),
+    )
+
+returns-3 : tie.Need-returns-3
+unfolding view
+returns-3 c =
+    let start = c .before .before .before .before .before .before .before .before .before .before .before .before in
+    let v = view (start .args .request) in
+    absurd (fitting-tested v (fitted v (start .args .order .now)) (c .before .reply2 .given .0 .0)
+    (sym (c .before .before .before .place-all .ensures .0) ∙ c .before .reply2 .given .1))
+
 returns-4 : tie.Need-returns-4
 unfolding view
 returns-4 c =
-    let start = c .before .before .before .before .before .before .before .before .before .before .before .before .before .before .before .before .before .before .before .before .before in
+    let start = c .before .before .before .before .before .before .before .before .before .before .before .before in
+    let told = c .before .before .before .before .before .before in
     let v = view (start .args .request) in
     let order = start .args .order .now in
-    let starts = start .args .starts .now in
-    let passes = sym (c .before .before .before .before .before .before .before .before .before .before .before .before .before .before .before .before .before .before .check-request .ensures) ∙ c .before .before .before .before .before .before .before .before .before .before .before .before .before .before .before .before .enum-told .given .1 in
-    let ordered = sym (c .before .before .before .before .before .before .before .before .before .before .before .before .before .before .before .check-order .ensures) ∙ c .before .before .before .before .before .before .before .before .before .before .before .before .before .enum-told2 .given .1 in
-    let room = room-held (v .demandCount) (length starts) (sym (c .before .before .before .before .before .before .before .before .before .before .before .before .check-room .ensures) ∙ c .before .before .before .before .before .before .before .before .before .before .enum-told3 .given .1) in
-    let limits = checked-limits (start .args .request) (whole (start .args .request) _ (start .good .0)) passes in
-    let tested = all-pass v order starts passes ordered room in
-    let end = c .before .before .before .before .before .before .reply .given .0 .0 in
-    let answer = sym (c .before .before .before .before .before .before .reply .given .1) ∙ c .before .before .before .before .before .before .before .before .place-all .ensures .0 in
-    let (rows, all) = end-placed (problemOf v) (fitted v order) end answer in (
-      fitted-answers v order starts tested (placed-reply.Placed end) answer,
-      c .before .before .write-front .ensures
-          ∙ front-fitted (fitted v order) rows (v .demandCount) _ starts (limits .most-demands) room all (c .before .before .before .before .before .before .before .before .place-all .ensures .1)
-          ∙ sym (fitted-writes v order starts tested),
-    )
-
-returns-5 : tie.Need-returns-5
-unfolding view
-returns-5 c =
-    let start = c .before .before .before .before .before .before .before .before .before .before .before .before .before .before .before in
-    let v = view (start .args .request) in
-    let order = start .args .order .now in
-    let starts = start .args .starts .now in
-    let passes = sym (c .before .before .before .before .before .before .before .before .before .before .before .before .check-request .ensures) ∙ c .before .before .before .before .before .before .before .before .before .before .enum-told .given .1 in
-    let ordered = sym (c .before .before .before .before .before .before .before .before .before .check-order .ensures) ∙ c .before .before .before .before .before .before .before .enum-told2 .given .1 in
-    let room = room-held (v .demandCount) (length starts) (sym (c .before .before .before .before .before .before .check-room .ensures) ∙ c .before .before .before .before .enum-told3 .given .1) in
-    let tested = all-pass v order starts passes ordered room in
-    let answer = c .before .before .place-all .ensures .0 in (
-      fitted-answers v order starts tested (c .before .before .place-all .result) answer,
-      refusal-keeps (problemOf v) (fitted v order) _ (v .demandCount) starts (sym (c .enum-told4 .given .1) ∙ answer)
-          ∙ sym (fitted-writes v order starts tested),
+    let why = c .before .reply3 .given .0 .0 in
+    let blocker = c .before .reply3 .given .0 .1 .0 in
+    let answer : placed-reply.Blocked why blocker ≡ _ = sym (c .before .reply3 .given .1) ∙ c .before .before .before .place-all .ensures .0 in (
+      answer ∙ sym (fitted-answers v order (roomsOf start) (tested told)),
+      (
+        blocked-keeps-starts v (fitted v order) why blocker (start .args .starts .now) answer
+            ∙ sym (fitted-writes v order (roomsOf start) (tested told) (start .args .starts .now)),
+        blocked-keeps-blockers v (fitted v order) why blocker (start .args .blockers .now) answer
+            ∙ sym (fitted-names v order (roomsOf start) (tested told) (start .args .blockers .now)),
+      ),
     )
 
 pub first-fit-spec : {M : Type 1} → statement M
 first-fit-spec =
     tie.close
     (tie.spec
-    check-request-requires
+    check-first-fit-requires
     enum-known-checked
     returns
     enum-told
-    check-order-requires
-    enum-known-ordered
-    returns-2
-    enum-told-2
-    check-room-requires
-    enum-known-roomy
-    returns-3
-    enum-told-3
     place-all-requires
     enum-known-reply
     array-share-prefix-at
     slice-aggregate-write-front
     write-front-requires
-    enum-told-4
+    array-share-prefix-by
+    slice-aggregate-write-front-2
+    write-front-requires-2
+    enum-known-reply-2
+    enum-known-reply-3
     same-length
-    returns-4
-    returns-5)
+    same-length-2
+    returns-2
+    returns-3
+    returns-4)

@@ -1,4 +1,4 @@
-// 06: limit (4), room, room, raw. Searches for the lowest end.
+// 06: limit (4), room, room, room, raw. Searches for the lowest end.
 use crate::buffers::MOST_ROOM;
 use crate::buffers::held_entries;
 use crate::buffers::lent_entries;
@@ -15,7 +15,8 @@ pub(crate) fn answer(body: &[u8]) -> bool {
     let limit = four_at(body, 0);
     let starts_room = two_at(body, 4) as usize;
     let order_room = two_at(body, 6) as usize;
-    let raw = raw_at(body, 8);
+    let blockers_room = two_at(body, 8) as usize;
+    let raw = raw_at(body, 10);
     if raw.end != body.len() {
         return false;
     }
@@ -25,27 +26,34 @@ pub(crate) fn answer(body: &[u8]) -> bool {
     if order_room > MOST_ROOM {
         return false;
     }
+    if blockers_room > MOST_ROOM {
+        return false;
+    }
     let mut starts = lent_entries();
     let mut order = lent_entries();
+    let mut blockers = lent_entries();
     let starts_room = held_entries(starts_room, &starts);
     let order_room = held_entries(order_room, &order);
+    let blockers_room = held_entries(blockers_room, &blockers);
     walk(
         raw.request,
         limit,
         &mut starts[..starts_room],
         &mut order[..order_room],
+        &mut blockers[..blockers_room],
     );
     true
 }
 
-fn walk(request: Request, limit: u32, starts: &mut [u16], order: &mut [u16]) {
-    let reply = search::search(request, limit, starts, order);
+fn walk(request: Request, limit: u32, starts: &mut [u16], order: &mut [u16], blockers: &mut [u16]) {
+    let reply = search::search(request, limit, starts, order, blockers);
     match reply {
         SearchReply::Answered(answer) => show(answer),
         SearchReply::Refused(why) => say::refusal(why),
     }
     say::entries(starts);
     say::entries(order);
+    say::entries(blockers);
     say::end();
 }
 

@@ -1,124 +1,125 @@
 -- `search::call::search_sound` meets its contract. Assumes nothing.
-use Prim.Native.Nat.{_≤_}
+use Prim.Native.Nat.{ℕ, _≤_}
 use mathlib.Core.Bool.{true, false}
-use mathlib.Core.Path.{_≡_, sym, ap, _∙_}
+use mathlib.Core.List.{List, [], _∷_, List·Memᴰ·head, List·Memᴰ·tail}
+use mathlib.Core.Path.{_≡_, refl, sym, ap, _∙_}
 use native.Mathlib.Omega.{arith}
 use borrow.Author.Tests.{not-true, not-false}
 use borrow.Author.Needs.{needs}
-use lib.ListN.{length, take}
+use lib.ListN.{length, take, replicate}
 use lib.Seq.{length-take-le}
 use Rattle.refusal.specs.declared.Refusal.the-variants.{TooManyToSearch}
 use Rattle.request.specs.declared.Checked.the-variants.{Sound, Refused}
 use Rattle.request.specs.View.{view}
-use Rattle.lent.specs.Lent.{checkRoom}
-use Rattle.lent.specs.LentLaws.{all-over, room-held}
+use Rattle.request.specs.SoundLaws.{check-sound, whole-counted}
+use Rattle.request.specs.LimitsLaws.{checked-limits}
+use Rattle.request.proofs.Arrays.{whole}
+use Rattle.lent.specs.LentLaws.{all-over, rooms-held}
+use Rattle.placing.specs.FirstFit.{firstFitBlockers}
 use Rattle.search.specs.declared.SearchReply.the-variants.{Answered}
 use Rattle.search.specs.inner.Told.{isMet}
-use Rattle.search.specs.Reply.{checkSearch, searched}
-use Rattle.search.specs.ReplyLaws.{rooms-many, rooms-starts, rooms-order, tested-room, refused-reply, refused-starts, refused-order, answered-reply, answered-starts, answered-order, plan-starts, plan-order, no-plan-starts, no-plan-order}
+use Rattle.search.specs.Reply.{Buffers, roomsOf, checkSearch, searched}
+use Rattle.search.specs.ReplyLaws.{sizes-many, sizes-few, tested-sizes, refused-reply, refused-buffers, answered-reply, answered-buffers, plan-kept, no-plan-kept}
+use Rattle.search.specs.Demand3Laws.{best-fitted}
+use Rattle.search.specs.ShownLaws.{order-blockers}
 use Rattle.search.proofs.call.search_sound.Statement.{statement}
 use Rattle.search.proofs.call.search_sound.Tie as tie
+
+-- the buffers as they are lent
+abbrev lent : tie.Start → Buffers
+lent start = record { starts = start .args .starts .now; order = start .args .order .now; blockers = start .args .blockers .now }
+
+-- at most 20 demands, and the tests passed
+few : (c : tie.After-enum-told) → view (c .before .before .before .before .before .before .before .before .args .request) .demandCount ≤ 20
+unfolding view
+few c = c .before .before .before .before .if1 .left
+
+tested : (c : tie.After-enum-told) → checkSearch (view (c .before .before .before .before .before .before .before .before .args .request)) (roomsOf (lent (c .before .before .before .before .before .before .before .before))) ≡ Sound
+unfolding view roomsOf
+tested c =
+    let start = c .before .before .before .before .before .before .before .before in
+    let v = view (start .args .request) in
+    tested-sizes v (roomsOf (lent start)) (start .pre .0)
+    ∙ sizes-few (v .demandCount) (roomsOf (lent start)) (few c)
+    ∙ sym (c .before .before .check-rooms .ensures)
+    ∙ c .enum-told .given .1
+
+-- each buffer has room
+rooms : (c : tie.After-enum-told) →
+    (view (c .before .before .before .before .before .before .before .before .args .request) .demandCount ≤ length (c .before .before .before .before .before .before .before .before .args .starts .now))
+    × (view (c .before .before .before .before .before .before .before .before .args .request) .demandCount ≤ length (c .before .before .before .before .before .before .before .before .args .order .now))
+    × (view (c .before .before .before .before .before .before .before .before .args .request) .demandCount ≤ length (c .before .before .before .before .before .before .before .before .args .blockers .now))
+unfolding view roomsOf
+rooms c =
+    let start = c .before .before .before .before .before .before .before .before in
+    let v = view (start .args .request) in
+    let held = rooms-held (v .demandCount) (roomsOf (lent start)) (sym (c .before .before .check-rooms .ensures) ∙ c .enum-told .given .1) in (
+      held (length (start .args .starts .now)) (List·Memᴰ·head refl),
+      held (length (start .args .order .now)) (List·Memᴰ·tail (List·Memᴰ·head refl)),
+      held (length (start .args .blockers .now)) (List·Memᴰ·tail (List·Memᴰ·tail (List·Memᴰ·head refl))),
+    )
 
 returns : tie.Need-returns
 unfolding view
 returns c =
-    let start = c .before .before .before in
-    let q = start .args .request in
-    let v = view q in
+    let start = c .before .before .before .before in
+    let v = view (start .args .request) in
     let limit = start .args .limit in
-    let starts = start .args .starts .now in
-    let order = start .args .order .now in
-    let K = v .demandCount in
-    let a = length starts in
-    let b = length order in
-    let tested : checkSearch v a b ≡ Refused (TooManyToSearch K) = sym (tested-room v a b (start .pre .0)) ∙ rooms-many K a b (c .if1 .taken) in
-    (refused-reply v limit a b (TooManyToSearch K) tested, (refused-starts v limit starts order (TooManyToSearch K) tested, refused-order v limit starts order (TooManyToSearch K) tested))
+    let why = TooManyToSearch (v .demandCount) in
+    let many : checkSearch v (roomsOf (lent start)) ≡ Refused why
+    = tested-sizes v (roomsOf (lent start)) (start .pre .0) ∙ sizes-many (v .demandCount) (roomsOf (lent start)) (c .if1 .taken) in
+    let stays = refused-buffers v limit (lent start) why many in (
+      refused-reply v limit (roomsOf (lent start)) why many,
+      (ap (λ (b : Buffers). b .starts) stays, (ap (λ (b : Buffers). b .order) stays, ap (λ (b : Buffers). b .blockers) stays)),
+    )
 
-check-room-requires : tie.Need-check-room-requires
-check-room-requires c κs = search needs
+slice-aggregate-check-rooms : tie.Need-slice-aggregate-check-rooms
+slice-aggregate-check-rooms c = search needs
 
-enum-known-starts-room : tie.Need-enum-known-starts-room
-enum-known-starts-room c = search needs
+check-rooms-requires : tie.Need-check-rooms-requires
+check-rooms-requires c κs = search needs
+
+enum-known-roomy : tie.Need-enum-known-roomy
+enum-known-roomy c = search needs
 
 returns-2 : tie.Need-returns-2
-unfolding view
+unfolding view roomsOf
 returns-2 c =
-    let start = c .before .before .before .before .before .before .before in
-    let q = start .args .request in
-    let v = view q in
+    let start = c .before .before .before .before .before .before .before .before .before in
+    let v = view (start .args .request) in
     let limit = start .args .limit in
-    let starts = start .args .starts .now in
-    let order = start .args .order .now in
-    let K = v .demandCount in
-    let a = length starts in
-    let b = length order in
-    let few : K ≤ 20 = c .before .before .before .before .if1 .left in
-    let why = c .before .starts-room .given .0 .0 in
-    let short : checkRoom K a ≡ Refused why = sym (c .before .before .before .check-room .ensures) ∙ c .before .starts-room .given .1 in
-    let tested : checkSearch v a b ≡ Refused why = sym (tested-room v a b (start .pre .0)) ∙ rooms-starts K a b why few short in
-    (refused-reply v limit a b why tested, (refused-starts v limit starts order why tested, refused-order v limit starts order why tested))
+    let why = c .before .roomy .given .0 .0 in
+    let short : checkSearch v (roomsOf (lent start)) ≡ Refused why
+    = tested-sizes v (roomsOf (lent start)) (start .pre .0)
+    ∙ sizes-few (v .demandCount) (roomsOf (lent start)) (c .before .before .before .before .before .if1 .left)
+    ∙ sym (c .before .before .before .check-rooms .ensures)
+    ∙ c .before .roomy .given .1 in
+    let stays = refused-buffers v limit (lent start) why short in (
+      refused-reply v limit (roomsOf (lent start)) why short,
+      (ap (λ (b : Buffers). b .starts) stays, (ap (λ (b : Buffers). b .order) stays, ap (λ (b : Buffers). b .blockers) stays)),
+    )
 
 enum-told : tie.Need-enum-told
 enum-told c = search needs
 
-check-room-requires-2 : tie.Need-check-room-requires-2
-check-room-requires-2 c κs = search needs
-
-enum-known-order-room : tie.Need-enum-known-order-room
-enum-known-order-room c = search needs
+find-requires : tie.Need-find-requires
+unfolding view
+find-requires c κs =
+    let start = c .before .before .before .before .before .before .before .before in
+    (record { sound = start .pre .0; few = c .before .before .before .before .if1 .left }, start .pre .1)
 
 returns-3 : tie.Need-returns-3
 unfolding view
 returns-3 c =
-    let start = c .before .before .before .before .before .before .before .before .before .before in
-    let q = start .args .request in
-    let v = view q in
+    let start = c .before .before .before .before .before .before .before .before .before .before .before in
+    let v = view (start .args .request) in
     let limit = start .args .limit in
-    let starts = start .args .starts .now in
-    let order = start .args .order .now in
-    let K = v .demandCount in
-    let a = length starts in
-    let b = length order in
-    let few : K ≤ 20 = c .before .before .before .before .before .before .before .if1 .left in
-    let starts-long : checkRoom K a ≡ Sound = sym (c .before .before .before .before .before .before .check-room .ensures) ∙ c .before .before .before .before .enum-told .given .1 in
-    let why = c .before .order-room .given .0 .0 in
-    let short : checkRoom K b ≡ Refused why = sym (c .before .before .before .check-room2 .ensures) ∙ c .before .order-room .given .1 in
-    let tested : checkSearch v a b ≡ Refused why = sym (tested-room v a b (start .pre .0)) ∙ rooms-order K a b few starts-long ∙ short in
-    (refused-reply v limit a b why tested, (refused-starts v limit starts order why tested, refused-order v limit starts order why tested))
-
-enum-told-2 : tie.Need-enum-told-2
-enum-told-2 c = search needs
-
-find-requires : tie.Need-find-requires
-unfolding view
-find-requires c κs =
-    let start = c .before .before .before .before .before .before .before .before .before in
-    (record { sound = start .pre .0; few = c .before .before .before .before .before .before .if1 .left }, start .pre .1)
-
-returns-4 : tie.Need-returns-4
-unfolding view
-returns-4 c =
-    let start = c .before .before .before .before .before .before .before .before .before .before .before .before in
-    let q = start .args .request in
-    let v = view q in
-    let limit = start .args .limit in
-    let starts = start .args .starts .now in
-    let order = start .args .order .now in
-    let K = v .demandCount in
-    let a = length starts in
-    let b = length order in
-    let few : K ≤ 20 = c .before .before .before .before .before .before .before .before .before .if1 .left in
-    let starts-long : checkRoom K a ≡ Sound = sym (c .before .before .before .before .before .before .before .before .check-room .ensures) ∙ c .before .before .before .before .before .before .enum-told .given .1 in
-    let order-long : checkRoom K b ≡ Sound = sym (c .before .before .before .before .before .check-room2 .ensures) ∙ c .before .before .before .enum-told2 .given .1 in
-    let tested : checkSearch v a b ≡ Sound = sym (tested-room v a b (start .pre .0)) ∙ rooms-order K a b few starts-long ∙ order-long in
     let found = c .before .before .find .ensures in
     let best = searched v limit .best in
-    let none : isMet best ≡ false = sym (found .plan-is) ∙ not-true (c .before .before .find .result .plan) (c .if2 .taken) in (
-      ap Answered (found .answer-is) ∙ answered-reply v limit a b tested,
-      (
-        no-plan-starts K best starts none ∙ answered-starts v limit starts order tested,
-        no-plan-order best order none ∙ answered-order v limit starts order tested,
-      ),
+    let none : isMet best ≡ false = sym (found .plan-is) ∙ not-true (c .before .before .find .result .plan) (c .if2 .taken) in
+    let stays = no-plan-kept v best (lent start) none ∙ answered-buffers v limit (lent start) (tested (c .before .before .before)) in (
+      ap Answered (found .answer-is) ∙ answered-reply v limit (roomsOf (lent start)) (tested (c .before .before .before)),
+      (ap (λ (b : Buffers). b .starts) stays, (ap (λ (b : Buffers). b .order) stays, ap (λ (b : Buffers). b .blockers) stays)),
     )
 
 array-share-prefix-first : tie.Need-array-share-prefix-first
@@ -139,44 +140,67 @@ slice-aggregate-write-front-2 c = sym (length-take-le _ _ (omega (arith, c .befo
 write-front-requires-2 : tie.Need-write-front-requires-2
 write-front-requires-2 c κs = search needs
 
+array-share-prefix-along-2 : tie.Need-array-share-prefix-along-2
+array-share-prefix-along-2 c = omega (arith, c .before .before .before .before .before .before .before .before .before .before .before .before .before .before .find .ensures .order-whole)
+
+slice-aggregate-first-fit : tie.Need-slice-aggregate-first-fit
+slice-aggregate-first-fit c = sym (length-take-le _ _ (omega (arith, c .before .before .before .before .before .before .before .before .before .before .before .before .before .before .before .find .ensures .order-whole)))
+
+slice-aggregate-first-fit-2 : tie.Need-slice-aggregate-first-fit-2
+slice-aggregate-first-fit-2 c = search needs
+
+first-fit-requires : tie.Need-first-fit-requires
+first-fit-requires c κs = search needs
+
 same-length : tie.Need-same-length
 same-length c = search needs
 
 same-length-2 : tie.Need-same-length-2
 same-length-2 c = search needs
 
-returns-5 : tie.Need-returns-5
+same-length-3 : tie.Need-same-length-3
+same-length-3 c = search needs
+
+returns-4 : tie.Need-returns-4
 unfolding view
-returns-5 c =
-    let start = c .before .before .before .before .before .before .before .before .before .before .before .before .before .before .before .before .before .before .before .before .before .before .before .before in
+returns-4 c =
+    let start = c .before .before .before .before .before .before .before .before .before .before .before .before .before .before .before .before .before .before .before .before .before .before .before .before .before .before .before .before .before .before in
+    let told = c .before .before .before .before .before .before .before .before .before .before .before .before .before .before .before .before .before .before .before .before .before .before in
     let q = start .args .request in
     let v = view q in
-    let limit = start .args .limit in
-    let starts = start .args .starts .now in
-    let order = start .args .order .now in
     let K = v .demandCount in
-    let a = length starts in
-    let b = length order in
-    let few : K ≤ 20 = c .before .before .before .before .before .before .before .before .before .before .before .before .before .before .before .before .before .before .before .before .before .if1 .left in
-    let starts-long : checkRoom K a ≡ Sound = sym (c .before .before .before .before .before .before .before .before .before .before .before .before .before .before .before .before .before .before .before .before .check-room .ensures) ∙ c .before .before .before .before .before .before .before .before .before .before .before .before .before .before .before .before .before .before .enum-told .given .1 in
-    let order-long : checkRoom K b ≡ Sound = sym (c .before .before .before .before .before .before .before .before .before .before .before .before .before .before .before .before .before .check-room2 .ensures) ∙ c .before .before .before .before .before .before .before .before .before .before .before .before .before .before .before .enum-told2 .given .1 in
-    let tested : checkSearch v a b ≡ Sound = sym (tested-room v a b (start .pre .0)) ∙ rooms-order K a b few starts-long ∙ order-long in
-    let result = c .before .before .before .before .before .before .before .before .before .before .before .before .before .before .find .result in
-    let found = c .before .before .before .before .before .before .before .before .before .before .before .before .before .before .find .ensures in
+    let limit = start .args .limit in
+    let result = c .before .before .before .before .before .before .before .before .before .before .before .before .before .before .before .before .before .before .before .before .before .find .result in
+    let found = c .before .before .before .before .before .before .before .before .before .before .before .before .before .before .before .before .before .before .before .before .before .find .ensures in
     let best = searched v limit .best in
-    let some : isMet best ≡ true = sym (found .plan-is) ∙ not-false (result .plan) (c .before .before .before .before .before .before .before .before .before .before .before .before .if2 .left) in
-    let starts-front : length (take K (result .starts)) ≡ K = length-take-le K (result .starts) (omega (arith, few, found .starts-whole)) in
-    let order-front : length (take K (result .order)) ≡ K = length-take-le K (result .order) (omega (arith, few, found .order-whole)) in (
-      ap Answered (found .answer-is) ∙ answered-reply v limit a b tested,
+    let again : List ℕ = replicate 20 0 in
+    let full = whole q _ (start .good .0) in
+    let limits = checked-limits q full (start .pre .0) in
+    let some : isMet best ≡ true = sym (found .plan-is) ∙ not-false (result .plan) (c .before .before .before .before .before .before .before .before .before .before .before .before .before .before .before .before .before .before .before .if2 .left) in
+    let starts-front : length (take K (result .starts)) ≡ K = length-take-le K (result .starts) (omega (arith, few told, found .starts-whole)) in
+    let order-front : length (take K (result .order)) ≡ K = length-take-le K (result .order) (omega (arith, few told, found .order-whole)) in
+    let kept =
+    plan-kept v best (lent start) (take K (result .starts)) (take K (result .order)) _ some
+    (λ rows along is.
+    let fits = best-fitted v (check-sound v (whole-counted q full) (start .pre .0)) (limits .demands-there) (limits .routes-there) limit rows along is in (
+      found .starts-are rows along is,
+      found .order-is rows along is,
+      c .before .before .before .first-fit .ensures .1 .1
+          ∙ ap (λ (o : List ℕ). firstFitBlockers v o (length again ∷ length (start .args .blockers .now) ∷ []) (start .args .blockers .now)) (found .order-is rows along is)
+          ∙ order-blockers v (start .pre .0) along again (start .args .blockers .now) (fits .0) rows (fits .1) (few told) (rooms told .2),
+    ))
+    ∙ answered-buffers v limit (lent start) (tested told) in (
+      ap Answered (found .answer-is) ∙ answered-reply v limit (roomsOf (lent start)) (tested told),
       (
-        c .before .before .before .before .before .before .before .before .write-front .ensures
-            ∙ all-over (take K (result .starts)) starts (omega (arith, starts-front, room-held K a starts-long))
-            ∙ plan-starts K best (take K (result .starts)) starts some (found .starts-are)
-            ∙ answered-starts v limit starts order tested,
-        c .before .before .write-front2 .ensures
-            ∙ all-over (take K (result .order)) order (omega (arith, order-front, room-held K b order-long))
-            ∙ plan-order best (take K (result .order)) order some (found .order-is)
-            ∙ answered-order v limit starts order tested,
+        c .before .before .before .before .before .before .before .before .before .before .before .before .before .before .before .write-front .ensures
+            ∙ all-over (take K (result .starts)) (start .args .starts .now) (omega (arith, starts-front, rooms told .0))
+            ∙ ap (λ (b : Buffers). b .starts) kept,
+        (
+          c .before .before .before .before .before .before .before .before .before .write-front2 .ensures
+              ∙ all-over (take K (result .order)) (start .args .order .now) (omega (arith, order-front, rooms told .1))
+              ∙ ap (λ (b : Buffers). b .order) kept,
+          ap (λ (b : Buffers). b .blockers) kept,
+        ),
       ),
     )
 
@@ -185,22 +209,24 @@ search-sound-spec =
     tie.close
     (tie.spec
     returns
-    check-room-requires
-    enum-known-starts-room
+    slice-aggregate-check-rooms
+    check-rooms-requires
+    enum-known-roomy
     returns-2
     enum-told
-    check-room-requires-2
-    enum-known-order-room
-    returns-3
-    enum-told-2
     find-requires
-    returns-4
+    returns-3
     array-share-prefix-first
     slice-aggregate-write-front
     write-front-requires
     array-share-prefix-along
     slice-aggregate-write-front-2
     write-front-requires-2
+    array-share-prefix-along-2
+    slice-aggregate-first-fit
+    slice-aggregate-first-fit-2
+    first-fit-requires
     same-length
     same-length-2
-    returns-5)
+    same-length-3
+    returns-4)

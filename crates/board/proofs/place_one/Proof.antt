@@ -1,0 +1,82 @@
+-- `board::place_one` meets its contract. Assumes nothing.
+use native.Mathlib.Omega.{arith}
+use borrow.Author.Needs.{needs}
+use Rattle.board.specs.StandingLaws.{past-blocks}
+use Rattle.board.specs.BoardLaws.{one-found, one-missed}
+use Rattle.board.proofs.place_one.Statement.{statement}
+use Rattle.board.proofs.place_one.Tie as tie
+
+at-most-200-requires : tie.Need-at-most-200-requires
+at-most-200-requires c κs = search needs
+
+past-ends-requires : tie.Need-past-ends-requires
+past-ends-requires c κs = search needs
+
+sum-requires : tie.Need-sum-requires
+sum-requires c κs = search needs
+
+first-above-requires : tie.Need-first-above-requires
+first-above-requires c κs = search needs
+
+lowest-below-requires : tie.Need-lowest-below-requires
+lowest-below-requires c κs =
+    let start = c .before .before .before .before .before in
+    let few = c .before .before .before .before .at-most-200 in
+    let past = c .before .before .before .past-ends in (
+      past-blocks (start .args .meets .now) (start .args .starts .now) (start .args .ends .now) (start .args .guard) (few .result) (past .result) (past .ensures) (omega (arith, few .ensures)),
+      (omega (arith, c .before .first-above .ensures, start .fits .slots .fits), omega (arith, c .before .before .sum .ensures, start .fits .width .fits, start .fits .guard .fits)),
+    )
+
+blocker-below-requires : tie.Need-blocker-below-requires
+blocker-below-requires c κs =
+    let start = c .before .before .before .before .before .before .before in
+    let few = c .before .before .before .before .before .before .at-most-200 in
+    let past = c .before .before .before .before .before .past-ends in (
+      past-blocks (start .args .meets .now) (start .args .starts .now) (start .args .ends .now) (start .args .guard) (few .result) (past .result) (past .ensures) (omega (arith, few .ensures)),
+      (omega (arith, c .before .lowest-below .ensures, c .before .before .before .first-above .ensures, start .fits .slots .fits), omega (arith, c .before .before .before .before .sum .ensures, start .fits .width .fits, start .fits .guard .fits)),
+    )
+
+cast-t20 : tie.Need-cast-t20
+cast-t20 c = search needs
+
+returns : tie.Need-returns
+returns c =
+    let start = c .before .before .before .before .before .before .before .before .before in
+    let few = c .before .before .before .before .before .before .before .before .at-most-200 in
+    let past = c .before .before .before .before .before .before .before .past-ends in
+    let span = c .before .before .before .before .before .before .sum in
+    let above = c .before .before .before .before .before .first-above in
+    let low = c .before .before .before .lowest-below in
+    let below = c .before .blocker-below in
+    one-found (start .args .meets .now) (start .args .starts .now) (start .args .ends .now) (start .args .count) (start .args .width) (start .args .guard) (start .args .slots)
+    (few .result) (past .result) (span .result) (above .result) (low .result) (below .result)
+    (few .ensures) (past .ensures) (span .ensures) (above .ensures) (low .ensures) (below .ensures)
+    (omega (arith, c .if1 .taken))
+
+returns-2 : tie.Need-returns-2
+returns-2 c =
+    let start = c .before .before .before .before .before .before .before .before .before in
+    let few = c .before .before .before .before .before .before .before .before .at-most-200 in
+    let past = c .before .before .before .before .before .before .before .past-ends in
+    let span = c .before .before .before .before .before .before .sum in
+    let above = c .before .before .before .before .before .first-above in
+    let low = c .before .before .before .lowest-below in
+    let below = c .before .blocker-below in
+    one-missed (start .args .meets .now) (start .args .starts .now) (start .args .ends .now) (start .args .count) (start .args .width) (start .args .guard) (start .args .slots)
+    (few .result) (past .result) (span .result) (above .result) (low .result) (below .result)
+    (few .ensures) (past .ensures) (span .ensures) (above .ensures) (low .ensures) (below .ensures)
+    (omega (arith, c .if1 .left))
+
+pub place-one-spec : {M : Type 1} → statement M
+place-one-spec =
+    tie.close
+    (tie.spec
+    at-most-200-requires
+    past-ends-requires
+    sum-requires
+    first-above-requires
+    lowest-below-requires
+    blocker-below-requires
+    cast-t20
+    returns
+    returns-2)

@@ -1,0 +1,2 @@
+-- Definitions that no promise speaks of.
+pub mod Near

@@ -1,0 +1,159 @@
+/* What the library answers to searches of request files, for others to hold it against.
+     answers frames REQUEST..   frames for the second program, see docs/REPLAY.md: for each file that is accepted, a search with room to
+                                spare, and one with each of the three buffers short, just enough and longer, with every other
+     answers lines REQUEST..    the lines that belong to these frames, from the library's answers
+     answers words REQUEST      the lines that lightdesk prints between the rows and the last one, from the starts, the order and the
+                                routes */
+#include "seen.h"
+#include <stdio.h>
+#include <stdlib.h>
+#include <string.h>
+
+enum { LIMIT = 2000, LIMIT_OF_ROOMS = 40, LIMIT_OF_WORDS = 1000000, MOST_ROOM = LIGHTPLAN_DEMANDS + 3, ENTRY = 0xAAAA };
+
+/* one search: its limit, and how many entries are lent for starts, order and blockers */
+struct search {
+    uint32_t limit;
+    size_t room[3];
+};
+
+static uint8_t file[LIGHTPLAN_REQUEST_BYTES + 1];
+static struct seen seen;
+
+static void stop(const char *what, const char *name)
+{
+    fprintf(stderr, "answers: %s: %s\n", what, name);
+    exit(2);
+}
+
+/* whether the file is accepted; what it says is then in `seen` */
+static int read_file(const char *name)
+{
+    uint16_t idents[LIGHTPLAN_DEMANDS], widths[LIGHTPLAN_DEMANDS];
+    FILE *in = fopen(name, "rb");
+    if (!in)
+        stop("not to be read", name);
+    size_t bytes = fread(file, 1, sizeof file, in);
+    if (ferror(in))
+        stop("not to be read", name);
+    fclose(in);
+    if (lightplan_read(file, bytes, idents, LIGHTPLAN_DEMANDS, widths, LIGHTPLAN_DEMANDS).refusal != LIGHTPLAN_ANSWERED)
+        return 0;
+    see(&seen, file, bytes);
+    return 1;
+}
+
+/* ---- frames */
+
+static void put(int bytes, size_t number)
+{
+    while (bytes-- > 0)
+        putchar((int)(number >> 8 * bytes & 255));
+}
+
+/* the request of the file, as it stands in a frame */
+static void put_request(void)
+{
+    const uint16_t *link = seen.routes;
+    put(2, (uint16_t)seen.n0);
+    put(2, seen.slots);
+    put(1, seen.guard);
+    put(2, seen.links);
+    for (size_t e = 0; e < 2 * seen.links; e++)
+        put(1, seen.ends[e]);
+    put(2, seen.demands);
+    for (size_t k = 0; k < seen.demands; k++) {
+        put(2, seen.idents[k]);
+        put(2, seen.widths[k]);
+        put(1, seen.hops[k]);
+        for (size_t h = 0; h < seen.hops[k]; h++)
+            put(1, *link++);
+    }
+}
+
+static void put_frame(const struct search *search)
+{
+    put(1, 6);
+    put(4, 4 + 3 * 2 + 5 + 2 + 2 * seen.links + 2 + 5 * seen.demands + seen.all_hops);
+    put(4, search->limit);
+    for (int b = 0; b < 3; b++)
+        put(2, search->room[b]);
+    put_request();
+}
+
+/* ---- lines */
+
+static void print_entries(const uint16_t *entries, size_t count)
+{
+    fputs(count ? " " : " -", stdout);
+    for (size_t k = 0; k < count; k++)
+        printf(k ? ",%u" : "%u", entries[k]);
+}
+
+static void print_line(const struct search *search)
+{
+    static const char *const words[] = {"refused", "finished", "nofit", "unfinished", "unfinished-empty"};
+    uint16_t lent[3][MOST_ROOM];
+    const size_t *room = search->room;
+    for (size_t k = 0; k < MOST_ROOM; k++)
+        lent[0][k] = lent[1][k] = lent[2][k] = ENTRY;
+    struct lightplan_answer a =
+        lightplan_search(seen.file, seen.bytes, search->limit, lent[0], room[0], lent[1], room[1], lent[2], room[2]);
+    fputs(words[a.outcome], stdout);
+    if (a.refusal)
+        printf(" %u %zu", a.refusal, a.place);
+    else
+        printf(" end %u bound %lu steps %lu reached %llu ruled %llu", a.end, (unsigned long)a.bound, (unsigned long)a.steps,
+               (unsigned long long)a.reached, (unsigned long long)a.ruled);
+    for (int b = 0; b < 3; b++)
+        print_entries(lent[b], room[b]);
+    putchar('\n');
+}
+
+/* ---- the searches of a file */
+
+static void each_search(void (*make)(const struct search *search))
+{
+    size_t k = seen.demands, least = k ? k - 1 : 0, room[3] = {least, k, k + 2};
+    make(&(struct search){LIMIT, {k + 3, k + 1, k + 2}});
+    for (int pick = 0; pick < 27; pick++)
+        make(&(struct search){LIMIT_OF_ROOMS, {room[pick / 9], room[pick / 3 % 3], room[pick % 3]}});
+}
+
+/* ---- words */
+
+static void print_words(void)
+{
+    uint16_t starts[LIGHTPLAN_SEARCHED], order[LIGHTPLAN_SEARCHED], blockers[LIGHTPLAN_SEARCHED];
+    struct lightplan_answer a = lightplan_search(seen.file, seen.bytes, LIMIT_OF_WORDS, starts, LIGHTPLAN_SEARCHED, order, LIGHTPLAN_SEARCHED,
+                                                 blockers, LIGHTPLAN_SEARCHED);
+    if (a.outcome != LIGHTPLAN_FINISHED && a.outcome != LIGHTPLAN_UNFINISHED)
+        return;
+    blockers_of(&seen, starts, order, blockers);
+    for (size_t k = 0; k < seen.demands; k++) {
+        size_t blocker = blockers[k];
+        if (!starts[k])
+            continue;
+        printf("circuit %u starts at %u: circuit %u ends ", seen.idents[k], starts[k], seen.idents[blocker]);
+        if (seen.guard)
+            printf("at %u, guard %u\n", starts[blocker] + seen.widths[blocker], seen.guard);
+        else
+            printf("there\n");
+    }
+}
+
+int main(int count, char **words)
+{
+    int frames = count > 2 && !strcmp(words[1], "frames"), lines = count > 2 && !strcmp(words[1], "lines");
+    if (!frames && !lines && !(count == 3 && !strcmp(words[1], "words")))
+        stop("usage", "answers frames REQUEST.. | lines REQUEST.. | words REQUEST");
+    for (int k = 2; k < count; k++) {
+        if (!read_file(words[k]))
+            continue;
+        if (frames || lines)
+            each_search(frames ? put_frame : print_line);
+        else
+            print_words();
+    }
+    return fflush(stdout) || ferror(stdout) ? 2 : 0;
+}
