@@ -1,7 +1,7 @@
 #!/usr/bin/env bash
-# Searches a request file for its best plan and says who is in the way of each circuit above slot 0, or checks a plan file against it; and
-# says in words whether it is the best there is. Builds lightdesk, a program in C over the proved library, where that is still to be done,
-# then runs it.
+# Searches a request file for its best plan and says who is in the way of each circuit above slot 0, or checks a plan file against it; says
+# how wide each circuit is that was booked by bit rate, and in words whether the plan is the best there is. Builds lightdesk, a program in C
+# over the proved library, where that is still to be done, then runs it.
 #   ./lightdesk.sh search REQUEST [LIMIT]
 #   ./lightdesk.sh check REQUEST PLAN
 #   ./lightdesk.sh --help

@@ -40,9 +40,9 @@ static void make_request(unsigned demands, unsigned hops, unsigned guard)
         put(file, &file_bytes, 1, (l + 1) % 64);
     }
     for (unsigned k = 0; k < demands; k++) {
-        put(file, &file_bytes, 3, 0x030000 + 4 + hops);
+        put(file, &file_bytes, 3, (k % 2 ? 0x050000 : 0x030000) + 4 + hops);
         put(file, &file_bytes, 2, 1000 + k);
-        put(file, &file_bytes, 2, 1);
+        put(file, &file_bytes, 2, k % 2 ? 10 : 1);
         for (unsigned h = 0; h < hops; h++)
             put(file, &file_bytes, 1, k % REACH + h);
     }
@@ -64,7 +64,8 @@ static void call_nothing(void) {}
 
 static void call_read(void)
 {
-    struct lightplan_request r = lightplan_read(file, file_bytes, first, LIGHTPLAN_DEMANDS, second, LIGHTPLAN_DEMANDS);
+    struct lightplan_request r =
+        lightplan_read(file, file_bytes, first, LIGHTPLAN_DEMANDS, second, LIGHTPLAN_DEMANDS, third, LIGHTPLAN_DEMANDS);
     refusal = r.refusal;
 }
 

@@ -1,8 +1,9 @@
 #!/usr/bin/env bash
-# Tests the C host: the library's entries called from C with lent memory that is looked at afterwards; its searches held against the second
-# program's, buffers included; and lightdesk held against the program lightplan, against who is in the way by a few lines of C, and against
-# the second program's checks of plans, on stored and random files. All C is compiled with UBSan; where AddressSanitizer runs, the entries are
-# called on every file under it, and lightdesk says all that it has words for. SEED=... repeats a run.
+# Tests the C host: the library's entries called from C with lent memory that is looked at afterwards; what they read, written again, and
+# their searches held against the second program's, buffers included; and lightdesk held against the program lightplan, against who is in
+# the way and what is booked by bit rate by a few lines of C, and against the second program's checks of plans, on stored and random
+# files. All C is compiled with UBSan; where AddressSanitizer runs, the entries are called on every file under it, and lightdesk says all
+# that it has words for. SEED=... repeats a run.
 # The last line counts the runs: "N passed, 0 failed". The first difference ends it with a non-zero status.
 set -euo pipefail
 cd "$(dirname "$0")/.."
@@ -125,7 +126,13 @@ begins() {
 
 # blocked LINES: what was printed last says this, and no more, of who is in the way
 blocked() {
-    [ "$(grep '^circuit ' "$work/printed" || true)" = "$1" ] || failed "others in the way: $(grep '^circuit ' "$work/printed")"
+    [ "$(grep ' starts at ' "$work/printed" || true)" = "$1" ] || failed "others in the way: $(grep ' starts at ' "$work/printed")"
+    passed=$((passed + 1))
+}
+
+# booked LINES: what was printed last says this, and no more, of circuits booked by bit rate
+booked() {
+    [ "$(grep ' is booked at ' "$work/printed" || true)" = "$1" ] || failed "booked otherwise: $(grep ' is booked at ' "$work/printed")"
     passed=$((passed + 1))
 }
 
@@ -138,6 +145,12 @@ misuse() {
 best='This is the best there is, proved: '
 at_bound="${best}the plan ends at the bound, and no plan can end below it."
 by_orders="${best}the search accounted for every order of the demands, and no plan at all ends lower."
+
+by_rate='circuit 10 is booked at 10 Gbit/s: 1 slot
+circuit 20 is booked at 40 Gbit/s: 1 slot
+circuit 30 is booked at 100 Gbit/s: 2 slots
+circuit 40 is booked at 400 Gbit/s: 8 slots
+circuit 60 is booked at 1000 Gbit/s: 20 slots'
 
 searches() {
     says 0 "$at_bound" search examples/R.request
@@ -152,6 +165,20 @@ searches() {
     blocked ''
     says 0 "$at_bound" search examples/blocked.request
     blocked $'circuit 20 starts at 3: circuit 10 ends at 2, guard 1\ncircuit 40 starts at 5: circuit 20 ends at 4, guard 1'
+    booked ''
+    says 0 "$at_bound" search examples/rates.request
+    begins 'finished end 30 bound 30 steps 6 reached 1 ruled 0'
+    booked "$by_rate"
+    blocked "$(printf 'circuit %s, guard 1\n' '30 starts at 2: circuit 10 ends at 1' '40 starts at 5: circuit 30 ends at 4' '50 starts at 5: circuit 30 ends at 4' '60 starts at 10: circuit 50 ends at 9')"
+    says 1 'Not known after 1 steps whether anything fits: no plan was met, and orders are left to try.' search examples/rates.request 1
+    booked "$by_rate"
+    { head -c 5 examples/rates.request; printf '\0\35'; tail -c +8 examples/rates.request; } >"$work/narrow"
+    says 1 'Nothing fits, proved: the fullest link needs 30 slots, and the band has 29.' search "$work/narrow"
+    booked "$by_rate"
+    { head -c 64 examples/rates.request; printf '\3\347\1'; } >"$work/rate"
+    says 1 "The request file is refused: a demand's bit rate is none of 10, 40, 100, 400 and 1000 Gbit/s. Place 59 is the byte, counted from 0, where that field begins." search "$work/rate"
+    begins 'refused 21 59'
+    booked ''
     says 0 "$by_orders" search examples/T.request 15
     says 0 'Not known after 14 steps whether this is the best there is: a plan may end lower, though none below 2.' search examples/T.request 14
     says 1 'Nothing fits, proved: the search accounted for every order of the demands, and no plan ends within 2 slots.' search examples/tight.request
@@ -172,6 +199,10 @@ checks() {
     printf '\4\0\4\0\24\0\2\4\0\4\0\36\0\3\4\0\4\0\12\0\0' >"$work/higher"
     says 0 'The plan is allowed. The bound does not tell whether it is the best there is: a plan may end lower, though none below 4.' check examples/R.request "$work/higher"
     begins 'accepted end 6 bound 4'
+    printf '\4\0\4\0%b\0%b' '\12' '\0' '\24' '\0' '\36' '\2' '\50' '\5' '\62' '\5' '\74' '\12' >"$work/by-rate"
+    says 0 "${best}the plan is allowed and ends at the bound, and no plan can end below it." check examples/rates.request "$work/by-rate"
+    booked "$by_rate"
+    blocked ''
     says 1 'The plan is refused: a demand clashes with an earlier one: they share a link, and the guard does not part them. Place 2 is its listing position, counted from 0.' check examples/R.request examples/R-clash.plan
     says 1 'The plan is refused: a demand of the request has no row. Place 0 is its listing position, counted from 0.' check examples/R.request /dev/null
     says 1 'The plan is refused: a row has an ident that no demand of the request has. Place 0 is the byte, counted from 0, where that field begins.' check examples/T.request examples/R.plan
@@ -256,10 +287,18 @@ for frames in stored random; do
     "$oracle" plans "$work/checked/$frames" <"$work/$frames" >/dev/null
 done
 
-# found FILE: the lines that a search of the file prints, but for the last: the program's, and who is in the way by a few lines of C
+# found FILE: the lines that a search of the file prints, but for the last: the program's, and what is booked by bit rate and who is in the
+# way by a few lines of C
 found() {
     x86_run "$program" <"$1"
     x86_run "$work/answers" words "$1"
+}
+
+# checked FILE: the lines that the check of the plan beside the file prints, but for the last: the second program's, and what is booked by
+# bit rate where the plan is accepted
+checked() {
+    cat "${1%.request}.lines"
+    ! grep -q '^accepted ' "${1%.request}.lines" || x86_run "$work/answers" rates "$1"
 }
 
 for file in examples/*.request "$work"/searched/*/*.request; do
@@ -268,7 +307,8 @@ for file in examples/*.request "$work"/searched/*/*.request; do
 done
 echo "as the program, and as who is in the way: $passed so far"
 for file in "$work"/checked/*/*.request; do
-    same "${file%.request}.lines" check "$file" "${file%.request}.plan"
+    checked "$file" >"$work/expected"
+    same "$work/expected" check "$file" "${file%.request}.plan"
 done
 echo "as the second program's checks: $passed so far"
 
@@ -278,13 +318,14 @@ strict_run "$work/entries" examples/*.request "$work"/*/*/*.request | tee "$work
 files=$(sed -n 's/^\([0-9]*\) files, .*/\1/p' "$work/counted")
 passed=$((passed + files))
 
-# The second program answers the same searches alike, with the same entries in every buffer: short, just enough and longer.
+# The second program reads the same files alike, as they are written again from what is told; and answers the same searches alike, with the
+# same entries in every buffer: short, just enough and longer.
 x86_run "$work/answers" frames examples/*.request "$work"/searched/*/*.request >"$work/frames"
 x86_run "$work/answers" lines examples/*.request "$work"/searched/*/*.request >"$work/lines"
-"$oracle" answer <"$work/frames" | cmp - "$work/lines" || failed "searches unlike the second program's"
+"$oracle" answer <"$work/frames" | cmp - "$work/lines" || failed "readings or searches unlike the second program's"
 lines=$(wc -l <"$work/lines")
 passed=$((passed + lines))
-echo "$lines searches as the second program's"
+echo "$lines readings and searches as the second program's"
 
 # The walks in C answer as the proved search does, and the stack that the header names is enough.
 bench/run "$seed" 5000 >"$work/bench" 2>&1 || { cat "$work/bench"; failed "bench/run"; }
@@ -309,13 +350,17 @@ for ((fault = 1; fault <= faults; fault++)); do
 done
 echo "$faults wrong libraries noticed by the entries' test"
 
-# And by the comparison of what is printed: the faults of reading and searching, of who is in the way, of places, of checks.
+# And by the comparison of what is printed: the faults of reading and searching, of who is in the way, of bit rates, of places, of checks.
 found examples/R.request >"$work/R"
 for fault in 2 3 8 9 10 11 12 29 30 43 44 46; do
     unlike $fault "$work/R" search examples/R.request
 done
 found examples/blocked.request >"$work/blocked"
 unlike 45 "$work/blocked" search examples/blocked.request
+found examples/rates.request >"$work/rates"
+for fault in 51 52 53; do
+    unlike $fault "$work/rates" search examples/rates.request
+done
 printf 'refused 1 35\n' >"$work/refused"
 head -c 42 examples/R.request >"$work/cut"
 same "$work/refused" search "$work/cut"

@@ -86,6 +86,12 @@ passed=$((passed + small))
 for op in 01 02 03 04 05 06 07 08 09 0A 0B; do
     grep -q "^$op refused" "$work/census" && grep "^$op " "$work/census" | grep -qv refused || fail "call $op is not among the cases"
 done
+# Every call with a request gets one with bit rates, answered and refused, and refuses one for its rate.
+for op in 01 02 03 04 05 06 07 08 09; do
+    grep "^$op .* by rate [0-9]*$" "$work/census" >"$work/rates" || fail "call $op is not among the cases with rates"
+    grep -q "^$op refused 21 " "$work/rates" && grep -q "^$op refused  9 " "$work/rates" && grep -qv refused "$work/rates" ||
+        fail "call $op is not among the cases with rates"
+done
 # Call 20 refuses nothing: it finds a start or none, and names a blocker or none.
 for words in at 'at none' nowhere 'nowhere none'; do
     grep -q "^20 $words [0-9]*$" "$work/census" || fail "call 20 is not among the cases with '$words'"

@@ -21,11 +21,12 @@ static const char help[] =
     "A file called - is standard input.\n"
     "\n"
     "The first line is the answer with its numbers, or `refused` with the number and the place of the fault. With a plan\n"
-    "a row for each demand follows: ident, start, end, central number, central MHz. After the rows of a search a line\n"
-    "for each demand that starts above 0 says who is in the way: `circuit A starts at N: circuit B ends at M, guard G`,\n"
-    "with their idents, or without a guard `circuit A starts at N: circuit B ends there`. A stands there because of B,\n"
-    "which was placed before it. The last line says in words whether the plan is the best there is and how that is\n"
-    "known, or what was refused and why.\n"
+    "a row for each demand follows: ident, start, end, central number, central MHz. Then, with a plan or without, a line\n"
+    "for each demand that asks for a bit rate says how wide that is: `circuit A is booked at R Gbit/s: W slots`. After\n"
+    "these a search with a plan has a line for each demand that starts above 0, with who is in the way: `circuit A starts\n"
+    "at N: circuit B ends at M, guard G`, with their idents, or without a guard `circuit A starts at N: circuit B ends\n"
+    "there`. A stands there because of B, which was placed before it. The last line says in words whether the plan is the\n"
+    "best there is and how that is known, or what was refused and why.\n"
     "\n"
     "Exit status: 0 there is a plan, or the plan is accepted, be it the best or not; 1 there is none: nothing fits, the\n"
     "steps ran out before a plan was met, or a file was refused; 2 wrong usage, or a file cannot be read or written.\n";
@@ -42,7 +43,7 @@ struct file {
 struct desk {
     struct file file;
     struct lightplan_request request;
-    uint16_t idents[LIGHTPLAN_DEMANDS], widths[LIGHTPLAN_DEMANDS];
+    uint16_t idents[LIGHTPLAN_DEMANDS], widths[LIGHTPLAN_DEMANDS], rates[LIGHTPLAN_DEMANDS];
 };
 
 /* a plan that a search found, by listing position; the order that gave it; and who is in the way of each demand */
@@ -88,7 +89,8 @@ static enum status open_desk(const char *name, struct desk *desk)
     enum status status = read_file(name, LIGHTPLAN_REQUEST_BYTES, &desk->file);
     if (status != YES)
         return status;
-    desk->request = lightplan_read(desk->file.bytes, desk->file.length, desk->idents, LIGHTPLAN_DEMANDS, desk->widths, LIGHTPLAN_DEMANDS);
+    desk->request = lightplan_read(desk->file.bytes, desk->file.length, desk->idents, LIGHTPLAN_DEMANDS, desk->widths, LIGHTPLAN_DEMANDS,
+                                   desk->rates, LIGHTPLAN_DEMANDS);
     if (desk->request.refusal == LIGHTPLAN_ANSWERED)
         return YES;
     print_refusal(stdout, desk->request.refusal, desk->request.place, "request file", desk->file.length);
@@ -104,6 +106,16 @@ static void print_rows(const struct desk *desk, const uint16_t *starts)
         struct lightplan_frequency_of centre =
             lightplan_frequency(request->n0, request->slots, request->guard, starts[k], desk->widths[k]);
         printf("%u %u %u %ld %lld\n", desk->idents[k], start, start + width, (long)centre.n, (long long)centre.mhz);
+    }
+}
+
+/* a line for each demand that asks for a bit rate: how many slots that takes */
+static void print_rates(const struct desk *desk)
+{
+    for (size_t k = 0; k < desk->request.demands; k++) {
+        unsigned width = desk->widths[k];
+        if (desk->rates[k])
+            printf("circuit %u is booked at %u Gbit/s: %u slot%s\n", desk->idents[k], desk->rates[k], width, width == 1 ? "" : "s");
     }
 }
 
@@ -126,6 +138,7 @@ static void print_blockers(const struct desk *desk, const struct found *found)
 static void print_found(const struct desk *desk, const struct found *found)
 {
     print_rows(desk, found->starts);
+    print_rates(desk);
     print_blockers(desk, found);
 }
 
@@ -150,6 +163,7 @@ static enum status print_nothing_fits(const struct desk *desk, const struct ligh
 {
     unsigned slots = desk->request.slots;
     print_counts("nofit", answer);
+    print_rates(desk);
     if (answer->bound > slots)
         printf("Nothing fits, proved: the fullest link needs %lu slots, and the band has %u.\n", (unsigned long)answer->bound, slots);
     else
@@ -162,6 +176,7 @@ static enum status print_unfinished(const struct desk *desk, const struct lightp
     unsigned long steps = answer->steps;
     print_counts("unfinished", answer);
     if (answer->outcome == LIGHTPLAN_UNFINISHED_EMPTY) {
+        print_rates(desk);
         printf("Not known after %lu steps whether anything fits: no plan was met, and orders are left to try.\n", steps);
         return NO;
     }
@@ -200,6 +215,7 @@ static enum status print_accepted(const struct desk *desk, const struct lightpla
     unsigned long bound = verdict->bound;
     printf("accepted end %u bound %lu\n", verdict->end, bound);
     print_rows(desk, starts);
+    print_rates(desk);
     if (verdict->end == bound)
         puts("This is the best there is, proved: the plan is allowed and ends at the bound, and no plan can end below it.");
     else

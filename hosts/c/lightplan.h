@@ -1,9 +1,10 @@
 /* Lightplan for C: reads request files, searches for the plan that ends lowest, checks plans. Seven calls over a library in which every
    function is proved to meet its contract.
 
-   A request lists demands (circuits): each has an ident, a width in slots and a route over links. A plan gives each demand a start, its
-   first slot; the demand then ends at start + width. Demands go by listing position: their place in the request file, from 0. K is how
-   many there are. Request and plan files are given as their bytes; docs/RULES.md says how they are laid out.
+   A request lists demands (circuits): each has an ident, a width in slots or a bit rate, which takes so many slots, and a route over
+   links. A plan gives each demand a start, its first slot; the demand then ends at start + width. Demands go by listing position: their
+   place in the request file, from 0. K is how many there are. Request and plan files are given as their bytes; docs/RULES.md says how
+   they are laid out.
 
    Slices. What the library reads or writes is lent as a pointer and a count of elements. A call never looks beyond that count, keeps no
    pointer after it returns, and wants the pointer aligned for its elements. A buffer that a call writes must not overlap anything else
@@ -26,8 +27,9 @@ extern "C" {
 
 /* The version of these calls and structs. A library fits this header where lightplan_version() answers the same number.
    Changes: 2 numbers outcomes from 1 (1 did from 0), tells what a check refuses, and adds lightplan_read_routes and this number. 3 lends
-   lightplan_search a third buffer, for who is in the way, and adds LIGHTPLAN_NOBODY. */
-#define LIGHTPLAN_VERSION 3
+   lightplan_search a third buffer, for who is in the way, and adds LIGHTPLAN_NOBODY. 4 reads demands by bit rate: it lends lightplan_read a
+   third buffer, for the rates, and adds LIGHTPLAN_UNKNOWN_RATE. */
+#define LIGHTPLAN_VERSION 4
 
 /* The longest files that are read. To see that a file is too long it is enough to give one byte more. */
 #define LIGHTPLAN_REQUEST_BYTES 8128
@@ -49,8 +51,8 @@ extern "C" {
 /* In the blockers of lightplan_search: nobody is in the way. Listing positions are below LIGHTPLAN_DEMANDS. */
 #define LIGHTPLAN_NOBODY 65535
 
-/* A stack of so many bytes is enough for any of the calls, on x86-64. Measured with the heaviest inputs: lightplan_read 69040,
-   lightplan_read_routes 68880, lightplan_check 70048, lightplan_search 90480, lightplan_check_starts 59232, lightplan_frequency 40,
+/* A stack of so many bytes is enough for any of the calls, on x86-64. Measured with the heaviest inputs: lightplan_read 59264,
+   lightplan_read_routes 68896, lightplan_check 70400, lightplan_search 90496, lightplan_check_starts 49456, lightplan_frequency 40,
    lightplan_version 8. */
 #define LIGHTPLAN_STACK 98304
 
@@ -66,7 +68,8 @@ enum lightplan_refusal {
     LIGHTPLAN_TOO_MANY_DEMANDS = 6,   /* a 201st demand; place: offset */
     LIGHTPLAN_BAD_ROUTE = 7,          /* a route that breaks, or has a link that is not listed or stands in it twice; place: offset */
     LIGHTPLAN_IDENT_USED = 8,         /* an ident that an earlier demand has; place: offset */
-    LIGHTPLAN_BAD_WIDTH = 9,          /* a width of 0 or above the slot count; place: offset, in lightplan_frequency 0 */
+    LIGHTPLAN_BAD_WIDTH = 9,          /* a width of 0 or above the slot count, or a rate that takes more slots than it; place: offset, in
+                                         lightplan_frequency 0 */
     LIGHTPLAN_BUFFER_SHORT = 10,      /* a result buffer has too few entries; place: how many it needs */
     LIGHTPLAN_TOO_MANY_TO_SEARCH = 11, /* more than 20 demands for a search; place: K */
     LIGHTPLAN_NOT_AN_ORDER = 12,      /* of a call that is not offered to C */
@@ -80,7 +83,8 @@ enum lightplan_refusal {
     LIGHTPLAN_CLASH = 18,             /* on a link that they share two demands overlap, or leave less than the guard free; place: the
                                          lowest listing position that is too near to one before it */
     LIGHTPLAN_NO_BLOCK = 19,          /* of a call that is not offered to C */
-    LIGHTPLAN_FILE_TOO_LONG = 20      /* a file above its limit; place: the limit, 8128 for a request and 1400 for a plan */
+    LIGHTPLAN_FILE_TOO_LONG = 20,     /* a file above its limit; place: the limit, 8128 for a request and 1400 for a plan */
+    LIGHTPLAN_UNKNOWN_RATE = 21       /* a bit rate other than 10, 40, 100, 400 and 1000 Gbit/s; place: offset */
 };
 
 /* How a search came out. A struct of zeros, and a refusal, has none of these. */
@@ -150,10 +154,12 @@ struct lightplan_frequency_of {
     int64_t mhz;     /* the central frequency in MHz */
 };
 
-/* Reads a request file. The first K entries of `idents` and of `widths` get the demands' idents and widths by listing position; what
-   stands behind them stays. Refusals: 20, then field by field 1 to 9; 10 last, for idents and then for widths. */
+/* Reads a request file. The first K entries of `idents`, of `widths` and of `rates` get, by listing position, the demands' idents, their
+   widths in slots and the bit rates that they ask for, in Gbit/s; a demand that asks for a width has the rate 0, and no other has. A rate
+   of 10 or 40 takes 1 slot, 100 takes 2, 400 takes 8, 1000 takes 20. What stands behind these entries stays. Refusals: 20, then field by
+   field 1 to 9 and 21, which comes after 8 and before 9; 10 last, for idents, for widths and then for rates. */
 struct lightplan_request lightplan_read(const uint8_t *file, size_t file_bytes, uint16_t *idents, size_t idents_count, uint16_t *widths,
-                                        size_t widths_count);
+                                        size_t widths_count, uint16_t *rates, size_t rates_count);
 
 /* Reads the links and the routes of a request file; with lightplan_read that is all that is in it. `ends` gets two entries for each link:
    the node where link k begins at 2k, and the node it leads to at 2k + 1. The first K entries of `hops` get how many links each demand's

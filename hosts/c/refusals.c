@@ -27,6 +27,7 @@ static const struct meaning meanings[] = {
     [LIGHTPLAN_END_ABOVE] = {"a row's demand ends above the band", offset},
     [LIGHTPLAN_CLASH] = {"a demand clashes with an earlier one: they share a link, and the guard does not part them", position},
     [LIGHTPLAN_FILE_TOO_LONG] = {"the file is too long", "how many bytes it may have"},
+    [LIGHTPLAN_UNKNOWN_RATE] = {"a demand's bit rate is none of 10, 40, 100, 400 and 1000 Gbit/s", offset},
 };
 
 enum { MEANINGS = sizeof meanings / sizeof meanings[0] };

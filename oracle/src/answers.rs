@@ -8,7 +8,7 @@ use crate::placing::first_fit;
 use crate::plan::{check_starts, write_plan};
 use crate::plan_file::read_plan;
 use crate::request::{Refusal, Request};
-use crate::request_file::{read_request, request_bytes, write_request};
+use crate::request_file::{read_request, write_request, written};
 use crate::rules::Rules;
 use crate::sound::test_request;
 use crate::walk::{search, Found, Outcome};
@@ -34,7 +34,7 @@ pub fn answer_stream(mut stream: &[u8], rules: &Rules) -> Vec<String> {
 pub fn answer(call: &Call, rules: &Rules) -> String {
     match call {
         Call::ReadRequest { file } => {
-            said(read_request(file, rules).map(|request| format!("read {}", hex(&request_bytes(&request)))), &[])
+            said(read_request(file, rules).map(|request| format!("read {}", hex(&written(&request, rules)))), &[])
         }
         Call::Sound { request } => said(test_request(request, rules).map(|()| "sound".to_string()), &[]),
         Call::WriteRequest { room, request } => {

@@ -35,7 +35,9 @@ pub fn check(calls: &[Call], lines: &[String]) -> bool {
 }
 
 fn small(request: &Request) -> bool {
-    test_request(request, &Rules::right()).is_ok() && request.demand_count <= 20 && plans_to_try(request).is_some()
+    test_request(request, &Rules::right()).is_ok()
+        && request.demand_count <= 20
+        && plans_to_try(request, &Rules::right()).is_some()
 }
 
 fn hold(frame: usize, request: &Request, line: &str, tally: &mut Tally) {
@@ -44,7 +46,7 @@ fn hold(frame: usize, request: &Request, line: &str, tally: &mut Tally) {
         Some("nofit") => tally.nothing_fits += 1,
         _ => tally.unfinished += 1,
     }
-    let best = best_end(request);
+    let best = best_end(request, &Rules::right());
     if agrees(request, line, best) != Some(true) {
         tally.wrong += 1;
         println!("frame {frame}: {line}; the best of all plans is {best:?}");
@@ -56,7 +58,7 @@ fn hold(frame: usize, request: &Request, line: &str, tally: &mut Tally) {
 fn agrees(request: &Request, line: &str, best: Option<i64>) -> Option<bool> {
     let words: Vec<&str> = line.split(' ').collect();
     let end: i64 = words.get(2)?.parse().ok()?;
-    let shown = || is_plan(request, &entries(words.get(11)?)?, end);
+    let shown = || is_plan(request, &entries(words.get(11)?)?, end, &Rules::right());
     match words[0] {
         "finished" => Some(best == Some(end) && shown()?),
         "nofit" => Some(best.is_none() && end == 0),

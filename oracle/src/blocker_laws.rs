@@ -21,15 +21,21 @@ pub fn blockers_hold(request: &Request, given: &Given, rules: &Rules) -> bool {
         let before = &given.order[..turn];
         let start = given.starts[position];
         let named = Some(given.blockers[position]).filter(|&entry| entry != NONE).map(usize::from);
-        named == ends_a_guard_below(request, before, given.starts, position)
+        named == ends_a_guard_below(request, before, given.starts, position, rules)
             && named.is_some() == (start > 0)
             && named.is_none_or(|named| painted(request, before, given.starts, (position, start - 1), named, rules))
-            && place_one(&alone(request, before, given.starts, position), rules) == Spot::At(start, named)
+            && place_one(&alone(request, before, given.starts, position, rules), rules) == Spot::At(start, named)
     })
 }
 
-fn ends_a_guard_below(request: &Request, before: &[usize], starts: &[i64], position: usize) -> Option<usize> {
-    let over = |other: usize| starts[other] + request.width(other) + request.band.guard;
+fn ends_a_guard_below(
+    request: &Request,
+    before: &[usize],
+    starts: &[i64],
+    position: usize,
+    rules: &Rules,
+) -> Option<usize> {
+    let over = |other: usize| starts[other] + request.width(other, rules) + request.band.guard;
     let below = |other: &&usize| share(request, **other, position) && over(**other) == starts[position];
     before.iter().filter(below).copied().min()
 }
@@ -46,22 +52,22 @@ fn painted(
     let clashes = |shown: &dyn Fn(usize) -> bool| {
         let mut paint = Paint::to_place(request, rules);
         for &other in before.iter().filter(|&&other| shown(other)) {
-            paint.paint(&links_of(request, other, rules), starts[other], request.width(other), other);
+            paint.paint(&links_of(request, other, rules), starts[other], request.width(other, rules), other);
         }
-        paint.clash(&links_of(request, position, rules), start, request.width(position)).is_some()
+        paint.clash(&links_of(request, position, rules), start, request.width(position, rules)).is_some()
     };
     clashes(&|other| other == named) && !clashes(&|other| other < named)
 }
 
 /// The demand, and by their listing positions those placed before; one that shares no link with it is not met.
-fn alone(request: &Request, before: &[usize], starts: &[i64], position: usize) -> One {
+fn alone(request: &Request, before: &[usize], starts: &[i64], position: usize, rules: &Rules) -> One {
     let standing = |other: usize| Standing {
         meets: (before.contains(&other) && share(request, other, position)) as u8,
         start: starts[other],
-        end: starts[other] + request.width(other),
+        end: starts[other] + request.width(other, rules),
     };
     let numbers = (0..request.demand_count).map(standing).collect();
-    One::new(request.band.slots, request.band.guard, request.width(position), numbers)
+    One::new(request.band.slots, request.band.guard, request.width(position, rules), numbers)
 }
 
 /// 13 comes at the first demand that, placed alone, goes nowhere beside those before it, and names whom that names: the one
@@ -69,10 +75,10 @@ fn alone(request: &Request, before: &[usize], starts: &[i64], position: usize) -
 pub fn stuck_holds(request: &Request, order: &[usize], refusal: &Refusal, rules: &Rules) -> bool {
     let mut starts = vec![0; request.demand_count];
     for (turn, &position) in order.iter().enumerate() {
-        match place_one(&alone(request, &order[..turn], &starts, position), rules) {
+        match place_one(&alone(request, &order[..turn], &starts, position, rules), rules) {
             Spot::At(start, _) => starts[position] = start,
             Spot::Nowhere(named) => {
-                let highest = request.band.slots - request.width(position);
+                let highest = request.band.slots - request.width(position, rules);
                 let at_the_top = |named| painted(request, &order[..turn], &starts, (position, highest), named, rules);
                 return refusal.place == position && refusal.blocker == named && named.is_some_and(at_the_top);
             }

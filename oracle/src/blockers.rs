@@ -18,8 +18,8 @@ fn named(
     rules: &Rules,
 ) -> Option<usize> {
     let in_the_way = |&other: &usize| match rules.slip {
-        Slip::BlockerWithoutGuard => overlap(request, (position, start), (other, starts[other])),
-        _ => clash(request, (position, start), (other, starts[other])),
+        Slip::BlockerWithoutGuard => overlap(request, (position, start), (other, starts[other]), rules),
+        _ => clash(request, (position, start), (other, starts[other]), rules),
     };
     let clashing: Vec<usize> = before.iter().copied().filter(in_the_way).collect();
     let blocker = match rules.slip {
@@ -36,8 +36,9 @@ fn named(
 }
 
 /// What a slip asks instead: slots held twice, whatever the guard.
-fn overlap(request: &Request, (one, start): (usize, i64), (other, other_start): (usize, i64)) -> bool {
-    share(request, one, other) && start < other_start + request.width(other) && other_start < start + request.width(one)
+fn overlap(request: &Request, (one, start): (usize, i64), (other, other_start): (usize, i64), rules: &Rules) -> bool {
+    let (end, other_end) = (start + request.width(one, rules), other_start + request.width(other, rules));
+    share(request, one, other) && start < other_end && other_start < end
 }
 
 /// For each listing position the blocker at the start one lower, of the demands placed before; none at start 0.
@@ -82,7 +83,7 @@ pub fn blocker_of_stuck(
     position: usize,
     rules: &Rules,
 ) -> Option<usize> {
-    let highest = request.band.slots - request.width(position);
+    let highest = request.band.slots - request.width(position, rules);
     if highest == 0 && rules.slips(Slip::StuckUnnamedAtZero) {
         return None;
     }

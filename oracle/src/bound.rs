@@ -1,6 +1,6 @@
 //! The bound: over all links, the largest of the widths on the link and the guards between them.
 
-use crate::request::{Refusal, Request};
+use crate::request::{Demand, Refusal, Request};
 use crate::rules::Rules;
 use crate::slips::Slip;
 use crate::sound::test_request;
@@ -30,13 +30,21 @@ fn link_load(request: &Request, link: usize, rules: &Rules) -> i64 {
     if count == 0 && !rules.slips(Slip::UnusedLinkLessGuard) {
         return 0;
     }
-    let widths: i64 = on_it.iter().map(|demand| demand.width).sum();
+    let widths: i64 = on_it.iter().map(|demand| added(demand, rules)).sum();
     let guards = match rules.slip {
         Slip::BoundGuardEach => count,
         Slip::BoundNoGuard => 0,
         _ => count - 1,
     };
     widths + request.band.guard * guards
+}
+
+/// What a demand adds: its width, whatever it asks for.
+fn added(demand: &Demand, rules: &Rules) -> i64 {
+    if rules.slips(Slip::BoundByRate) {
+        return demand.asked.number();
+    }
+    demand.width(rules)
 }
 
 fn holds(route: &[usize], link: usize, rules: &Rules) -> bool {

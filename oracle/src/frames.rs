@@ -2,6 +2,7 @@
 
 use crate::fields::put_two;
 use crate::one::{One, Standing, NUMBERS_HELD};
+use crate::rates::Asked;
 use crate::request::{Band, Demand, Request};
 
 const LINKS_HELD: usize = 64;
@@ -24,6 +25,40 @@ pub enum Call {
     Frequency { band: Band, start: i64, width: i64 },
     Block { band: Band, n: i64, m: i64 },
     PlaceOne { one: One },
+}
+
+impl Call {
+    /// The request in memory that the call is given, if it is given one.
+    pub fn request(&self) -> Option<&Request> {
+        match self {
+            Call::Sound { request }
+            | Call::WriteRequest { request, .. }
+            | Call::Bound { request }
+            | Call::FirstFit { request, .. }
+            | Call::Search { request, .. }
+            | Call::Check { request, .. }
+            | Call::ReadPlan { request, .. }
+            | Call::WritePlan { request, .. } => Some(request),
+            _ => None,
+        }
+    }
+
+    /// The same call with another request, where it is given one.
+    pub fn with_request(&self, other: Request) -> Call {
+        let mut call = self.clone();
+        match &mut call {
+            Call::Sound { request }
+            | Call::WriteRequest { request, .. }
+            | Call::Bound { request }
+            | Call::FirstFit { request, .. }
+            | Call::Search { request, .. }
+            | Call::Check { request, .. }
+            | Call::ReadPlan { request, .. }
+            | Call::WritePlan { request, .. } => *request = other,
+            _ => {}
+        }
+        call
+    }
 }
 
 /// Takes the next frame off the stream. `None` for one that is cut short.
@@ -92,12 +127,14 @@ impl<'a> Cursor<'a> {
         Some((self.byte()?, self.byte()?))
     }
 
+    /// `None` also for a tag that is no demand's.
     fn demand(&mut self) -> Option<Demand> {
+        let tag = self.byte()?;
         let ident = self.two()? as i64;
-        let width = self.two()? as i64;
+        let asked = Asked::from(tag, self.two()? as i64)?;
         let hops = self.byte()? as usize;
         let route = self.take(hops.min(HOPS_HELD))?.iter().map(|&link| link as usize).collect();
-        Some(Demand { ident, width, hops, route })
+        Some(Demand { ident, asked, hops, route })
     }
 
     /// A request as in memory. What a count says beyond the arrays is not in the frame.
@@ -242,8 +279,9 @@ fn raw(request: &Request) -> Vec<u8> {
     }
     out.extend(two(request.demand_count));
     for demand in &request.demands {
+        out.push(demand.asked.tag());
         put_two(&mut out, demand.ident);
-        put_two(&mut out, demand.width);
+        put_two(&mut out, demand.asked.number());
         out.push(demand.hops as u8);
         out.extend(demand.route.iter().map(|&link| link as u8));
     }

@@ -7,9 +7,11 @@ use crate::frequency::{to_block, to_frequency};
 use crate::placing::first_fit;
 use crate::plan::{check_starts, plan_bytes};
 use crate::plan_file::read_plan;
+use crate::rates::by_width;
 use crate::request::{Band, Refusal, Request};
-use crate::request_file::{read_request, request_bytes};
+use crate::request_file::{read_request, written};
 use crate::rules::Rules;
+use crate::sound::test_request;
 use crate::walk::{factorial, search, Found, Outcome};
 
 /// Holds the laws on every call and prints the counts; false when one is broken.
@@ -31,10 +33,18 @@ pub fn check(calls: &[Call]) -> bool {
     broken == 0 && held > 0
 }
 
-/// Whether the call's answer keeps its law; `None` for a refusal other than 13 or a call without one.
+/// Whether the call's answer keeps its laws; `None` for a refusal other than 13 or a call without one.
 pub fn law(call: &Call, rules: &Rules) -> Option<bool> {
+    match (own_law(call, rules), same_by_width(call, rules)) {
+        (Some(own), Some(same)) => Some(own && same),
+        (own, same) => own.or(same),
+    }
+}
+
+fn own_law(call: &Call, rules: &Rules) -> Option<bool> {
     match call {
         Call::ReadRequest { file } => one_encoding(file, rules),
+        Call::WriteRequest { request, .. } => one_meaning(request, rules),
         Call::FirstFit { order, request, .. } => first_fit_law(request, order, rules),
         Call::Search { limit, request, .. } => search_law(request, *limit, rules),
         Call::Check { starts, request } => first_fit_suffices(request, starts, rules),
@@ -49,7 +59,22 @@ pub fn law(call: &Call, rules: &Rules) -> Option<bool> {
 /// A file that is read and then written is the same file.
 fn one_encoding(file: &[u8], rules: &Rules) -> Option<bool> {
     let request = read_request(file, rules).ok()?;
-    Some(request_bytes(&request) == file)
+    Some(written(&request, rules) == file)
+}
+
+/// A request that is written and then read is the same request, rates and all.
+fn one_meaning(request: &Request, rules: &Rules) -> Option<bool> {
+    test_request(request, rules).ok()?;
+    Some(read_request(&written(request, rules), rules).as_ref() == Ok(request))
+}
+
+/// A request with rates is answered as the one that asks for their widths, refusals too. Only its file is another.
+fn same_by_width(call: &Call, rules: &Rules) -> Option<bool> {
+    if matches!(call, Call::WriteRequest { .. }) {
+        return None;
+    }
+    let same = call.with_request(by_width(call.request()?)?);
+    Some(answer(call, rules) == answer(&same, rules))
 }
 
 /// What is placed is allowed, and each blocker is in the way; where 13 comes nothing can be placed.

@@ -22,6 +22,7 @@ pub mod placing;
 pub mod plan;
 pub mod plan_file;
 pub mod plans;
+pub mod rates;
 pub mod request;
 pub mod request_file;
 pub mod requests;

@@ -39,6 +39,7 @@ fn word(found: &Found) -> &'static str {
 /// Ident, start, end, n and central MHz.
 pub fn row(request: &Request, position: usize, start: i64, rules: &Rules) -> Result<String, Refusal> {
     let demand = &request.demands[position];
-    let centre = to_frequency(&request.band, start, demand.width, rules)?;
-    Ok(format!("{} {} {} {} {}\n", demand.ident, start, start + demand.width, centre.n, centre.mhz))
+    let width = demand.width(rules);
+    let centre = to_frequency(&request.band, start, width, rules)?;
+    Ok(format!("{} {} {} {} {}\n", demand.ident, start, start + width, centre.n, centre.mhz))
 }

@@ -1,6 +1,7 @@
 //! Two demands at two starts, told apart by the stated inequality.
 
 use crate::request::Request;
+use crate::rules::Rules;
 
 /// Whether two demands share a link.
 pub fn share(request: &Request, one: usize, other: usize) -> bool {
@@ -8,9 +9,9 @@ pub fn share(request: &Request, one: usize, other: usize) -> bool {
 }
 
 /// Whether two demands at these starts share a link and neither is over, its guard too, before the other begins.
-pub fn clash(request: &Request, (one, start): (usize, i64), (other, other_start): (usize, i64)) -> bool {
-    let end = start + request.width(one);
-    let other_end = other_start + request.width(other);
+pub fn clash(request: &Request, (one, start): (usize, i64), (other, other_start): (usize, i64), rules: &Rules) -> bool {
+    let end = start + request.width(one, rules);
+    let other_end = other_start + request.width(other, rules);
     let guard = request.band.guard;
     share(request, one, other) && end + guard > other_start && other_end + guard > start
 }

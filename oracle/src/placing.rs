@@ -10,7 +10,7 @@ use crate::sound::test_request;
 
 /// The lowest start that clashes with nothing painted and, if there is a top, keeps the end at most there.
 pub fn lowest_start(paint: &Paint, request: &Request, position: usize, top: Option<i64>, rules: &Rules) -> Option<i64> {
-    let width = request.width(position);
+    let width = request.width(position, rules);
     let links = links_of(request, position, rules);
     let mut start = first_tried(paint, request, &links, rules);
     loop {
@@ -53,7 +53,7 @@ fn place_all(request: &Request, order: &[usize], rules: &Rules) -> Placed {
     for (index, &position) in order.iter().enumerate().take(request.demand_count) {
         match lowest_start(&paint, request, position, Some(top_of(request, rules)), rules) {
             Some(start) => {
-                paint.paint(&links_of(request, position, rules), start, request.width(position), position);
+                paint.paint(&links_of(request, position, rules), start, request.width(position, rules), position);
                 placed.starts[position] = Some(start);
             }
             None => {
@@ -132,14 +132,14 @@ fn shown_starts(starts: &[i64], order: &[usize], rules: &Rules) -> Vec<i64> {
 
 fn end_of_placed(request: &Request, order: &[usize], starts: &[i64], rules: &Rules) -> i64 {
     if rules.slips(Slip::EndOfLastPlaced) {
-        return order.last().map_or(0, |&last| starts[last] + request.width(last));
+        return order.last().map_or(0, |&last| starts[last] + request.width(last, rules));
     }
-    largest_end(request, starts)
+    largest_end(request, starts, rules)
 }
 
 /// The largest end, 0 without demands.
-pub fn largest_end(request: &Request, starts: &[i64]) -> i64 {
-    starts.iter().enumerate().map(|(position, start)| start + request.width(position)).max().unwrap_or(0)
+pub fn largest_end(request: &Request, starts: &[i64], rules: &Rules) -> i64 {
+    starts.iter().enumerate().map(|(position, start)| start + request.width(position, rules)).max().unwrap_or(0)
 }
 
 /// 12: a wrong length, else the first entry that is no listing position or repeats one.

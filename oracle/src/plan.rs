@@ -4,6 +4,7 @@ use crate::fields::{put_field, put_two};
 use crate::lent::{test_room, write};
 use crate::paint::{links_of, Paint};
 use crate::placing::largest_end;
+use crate::rates::Asked;
 use crate::request::{refuse, Refusal, Request};
 use crate::rules::{Rules, REQUEST};
 use crate::slips::Slip;
@@ -98,12 +99,20 @@ fn test_ends(request: &Request, starts: &[i64], rules: &Rules) -> Result<(), Ref
 
 /// start + width never wraps.
 pub fn ends_above(request: &Request, position: usize, start: i64, rules: &Rules) -> bool {
-    let end = start + request.width(position);
+    let end = start + held(request, position, rules);
     match rules.slip {
         Slip::EndWraps => end % 65536 > request.band.slots,
         Slip::EndAtTopRefused => end >= request.band.slots,
         Slip::StartComparedAlone => start >= request.band.slots,
         _ => end > request.band.slots,
+    }
+}
+
+/// What is added to a start for 17: the width, also of a demand by rate.
+fn held(request: &Request, position: usize, rules: &Rules) -> i64 {
+    match request.demands.get(position).map(|demand| demand.asked) {
+        Some(Asked::Rate(rate)) if rules.slips(Slip::EndByRate) => rate,
+        _ => request.width(position, rules),
     }
 }
 
@@ -118,7 +127,7 @@ pub fn test_clashes(
     for &position in sequence {
         let Some(start) = starts[position] else { continue };
         let links = links_of(request, position, rules);
-        let width = request.width(position);
+        let width = request.width(position, rules);
         if let Some(owner) = paint.clash(&links, start, width) {
             return refuse(18, if rules.slips(Slip::ClashPlaceLower) { owner } else { position });
         }
@@ -134,7 +143,7 @@ pub fn test_clashes(
 pub fn plan_end(request: &Request, starts: &[i64], rules: &Rules) -> i64 {
     let read = &starts[..request.demand_count.min(starts.len())];
     if rules.slips(Slip::PlanEndOfLast) {
-        return read.last().map_or(0, |start| start + request.width(read.len() - 1));
+        return read.last().map_or(0, |start| start + request.width(read.len() - 1, rules));
     }
-    largest_end(request, read)
+    largest_end(request, read, rules)
 }

@@ -1,5 +1,8 @@
 //! A request as it stands in memory, sound or not, and what a refusal carries.
 
+use crate::rates::{width_of, Asked};
+use crate::rules::Rules;
+
 #[derive(Clone, Debug, PartialEq)]
 pub struct Band {
     pub n0: i64,
@@ -11,7 +14,7 @@ pub struct Band {
 #[derive(Clone, Debug, PartialEq)]
 pub struct Demand {
     pub ident: i64,
-    pub width: i64,
+    pub asked: Asked,
     pub hops: usize,
     pub route: Vec<usize>,
 }
@@ -45,8 +48,22 @@ impl Band {
 }
 
 impl Demand {
+    /// A demand by its width.
     pub fn new(ident: i64, width: i64, route: &[usize]) -> Demand {
-        Demand { ident, width, hops: route.len(), route: route.to_vec() }
+        Demand::asking(ident, Asked::Width(width), route)
+    }
+
+    pub fn by_rate(ident: i64, rate: i64, route: &[usize]) -> Demand {
+        Demand::asking(ident, Asked::Rate(rate), route)
+    }
+
+    pub fn asking(ident: i64, asked: Asked, route: &[usize]) -> Demand {
+        Demand { ident, asked, hops: route.len(), route: route.to_vec() }
+    }
+
+    /// The width that follows; 0 for a rate that has none.
+    pub fn width(&self, rules: &Rules) -> i64 {
+        width_of(self.asked, rules).unwrap_or(0)
     }
 }
 
@@ -56,7 +73,7 @@ impl Request {
     }
 
     /// A demand's width; 0 where no demand stands.
-    pub fn width(&self, position: usize) -> i64 {
-        self.demands.get(position).map_or(0, |demand| demand.width)
+    pub fn width(&self, position: usize, rules: &Rules) -> i64 {
+        self.demands.get(position).map_or(0, |demand| demand.width(rules))
     }
 }

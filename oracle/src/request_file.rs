@@ -1,6 +1,7 @@
 //! Request files read and written.
 
 use crate::fields::{field_at, put_field, put_two, two, whole_fields, Field};
+use crate::rates::{width_of, Asked, BY_RATE, BY_WIDTH};
 use crate::request::{refuse, Band, Demand, Refusal, Request};
 use crate::rules::{Rules, FIELDS, REQUEST};
 use crate::slips::Slip;
@@ -8,7 +9,6 @@ use crate::sound::{band_fault, demand_fault, link_fault, test_request};
 
 const BAND: u8 = 1;
 const LINK: u8 = 2;
-const DEMAND: u8 = 3;
 
 /// What was read so far.
 struct Reading {
@@ -84,7 +84,7 @@ fn field_checks(tag: u8, rules: &Rules) -> &[u8] {
     match tag {
         BAND => &rules.checks.band_field,
         LINK => &rules.checks.link_field,
-        DEMAND => &rules.checks.demand_field,
+        BY_WIDTH | BY_RATE => &rules.checks.demand_field,
         _ => &rules.checks.other_field,
     }
 }
@@ -93,6 +93,7 @@ fn field_place(number: u8, field: &Field, index: usize, reading: &Reading, rules
     match rules.slip {
         Slip::FieldIndexAsPlace => index,
         Slip::BodyOffsetAsPlace => field.offset + 3,
+        Slip::RateAsPlace if number == 21 => two(field.body, 2) as usize,
         Slip::ListingAsPlaceInFile if number >= 6 => reading.request.demands.len(),
         _ => field.offset,
     }
@@ -109,15 +110,42 @@ fn field_fault(number: u8, field: &Field, reading: &Reading, rules: &Rules) -> b
     }
 }
 
-/// The band, then the links, at least one, then the demands, if any.
+/// The band, then the links, at least one, then the demands, if any, by width and by rate as they come.
 fn may_stand(tag: u8, reading: &Reading, rules: &Rules) -> bool {
-    let no_link = reading.request.links.is_empty();
-    let no_demand = reading.request.demands.is_empty();
+    let demands = &reading.request.demands;
     match tag {
         BAND => !reading.band_read || rules.slips(Slip::SecondBandAllowed),
-        LINK => reading.band_read && (no_demand || rules.slips(Slip::LinkAfterDemandAllowed)),
-        DEMAND => reading.band_read && (!no_link || rules.slips(Slip::NoLinkAccepted)),
+        LINK => reading.band_read && (demands.is_empty() || link_let_in(demands, rules)),
+        BY_WIDTH | BY_RATE => reading.band_read && links_done(tag, reading, rules) && in_turn(tag, demands, rules),
         _ => false,
+    }
+}
+
+/// No link stands behind a demand, of either kind.
+fn link_let_in(demands: &[Demand], rules: &Rules) -> bool {
+    match rules.slip {
+        Slip::LinkAfterDemandAllowed => true,
+        Slip::RateEndsNoLinks => demands.iter().all(|demand| demand.asked.is_rate()),
+        Slip::LinkAfterRateAllowed => demands.last().is_some_and(|demand| demand.asked.is_rate()),
+        _ => false,
+    }
+}
+
+fn links_done(tag: u8, reading: &Reading, rules: &Rules) -> bool {
+    let let_in = match rules.slip {
+        Slip::NoLinkAccepted => true,
+        Slip::RateBeforeLinksAllowed => tag == BY_RATE,
+        _ => false,
+    };
+    !reading.request.links.is_empty() || let_in
+}
+
+/// The two kinds stand mixed.
+fn in_turn(tag: u8, demands: &[Demand], rules: &Rules) -> bool {
+    match rules.slip {
+        Slip::WidthAfterRateRefused => tag == BY_RATE || !demands.iter().any(|demand| demand.asked.is_rate()),
+        Slip::RateAfterWidthRefused => tag == BY_WIDTH || demands.iter().all(|demand| demand.asked.is_rate()),
+        _ => true,
     }
 }
 
@@ -126,8 +154,9 @@ fn right_length(field: &Field, rules: &Rules) -> bool {
         BAND => field.length == 5,
         LINK => field.length == 2,
         _ => {
-            let least = 4 + rules.limits.hops_least;
-            let most = 4 + rules.limits.hops_most;
+            let slips = |slip: Slip| field.tag == BY_RATE && rules.slips(slip);
+            let least = 4 + rules.limits.hops_least - slips(Slip::RateWithoutLinks) as usize;
+            let most = 4 + rules.limits.hops_most + slips(Slip::RateLongRoute) as usize;
             (least..=most).contains(&field.length)
         }
     }
@@ -169,18 +198,29 @@ fn link_of(field: &Field) -> (u8, u8) {
 
 fn demand_of(field: &Field) -> Demand {
     let route: Vec<usize> = field.body.iter().skip(4).map(|&link| link as usize).collect();
-    Demand::new(two(field.body, 0), two(field.body, 2), &route)
+    let number = two(field.body, 2);
+    Demand::asking(two(field.body, 0), Asked::from(field.tag, number).unwrap_or(Asked::Width(number)), &route)
 }
 
 /// The request's one encoding.
 pub fn request_bytes(request: &Request) -> Vec<u8> {
+    written(request, &Rules::right())
+}
+
+/// What the writer makes of a request: every demand under the tag by which it came.
+pub fn written(request: &Request, rules: &Rules) -> Vec<u8> {
     let mut out = Vec::new();
     put_field(&mut out, BAND, &band_body(&request.band));
     for link in &request.links {
         put_field(&mut out, LINK, &[link.0, link.1]);
     }
-    for demand in &request.demands {
-        put_field(&mut out, DEMAND, &demand_body(demand));
+    let mut demands: Vec<&Demand> = request.demands.iter().collect();
+    if rules.slips(Slip::RatesWrittenLast) {
+        demands.sort_by_key(|demand| demand.asked.is_rate());
+    }
+    for demand in demands {
+        let asked = asked_again(demand.asked, rules);
+        put_field(&mut out, asked.tag(), &demand_body(demand, asked));
     }
     out
 }
@@ -193,17 +233,30 @@ fn band_body(band: &Band) -> Vec<u8> {
     body
 }
 
-fn demand_body(demand: &Demand) -> Vec<u8> {
+/// What is asked for in a written file: what was asked for.
+fn asked_again(asked: Asked, rules: &Rules) -> Asked {
+    let width = width_of(asked, rules).unwrap_or(0);
+    let first_rate = rules.rates.iter().find(|row| row.1 == width).map(|row| Asked::Rate(row.0));
+    match rules.slip {
+        Slip::RateWrittenAsWidth => Asked::Width(width),
+        Slip::RateWrittenUnderWidthTag => Asked::Width(asked.number()),
+        Slip::RateWrittenByWidth if asked.is_rate() => first_rate.unwrap_or(asked),
+        Slip::WidthWrittenAsRate if !asked.is_rate() => first_rate.unwrap_or(asked),
+        _ => asked,
+    }
+}
+
+fn demand_body(demand: &Demand, asked: Asked) -> Vec<u8> {
     let mut body = Vec::new();
     put_two(&mut body, demand.ident);
-    put_two(&mut body, demand.width);
+    put_two(&mut body, asked.number());
     body.extend(demand.route.iter().map(|&link| link as u8));
     body
 }
 
 /// Writes the request into a lent buffer and says how many bytes it took.
 pub fn write_request(request: &Request, out: &mut [u8], rules: &Rules) -> Result<usize, Refusal> {
-    let bytes = request_bytes(request);
+    let bytes = written(request, rules);
     for &check in &rules.checks.request_writer {
         match check {
             REQUEST => test_request(request, rules)?,

@@ -1,5 +1,5 @@
-//! The limits and the check orders as data, and one slip. The right rules have no slip; a wrong variant changes
-//! one limit, one check order, or has one slip.
+//! The limits, the check orders and the table of rates as data, and one slip. The right rules have no slip; a wrong
+//! variant changes one limit, one check order, one row of the table, or has one slip.
 
 use crate::slips::Slip;
 
@@ -52,18 +52,23 @@ pub struct Checks {
 pub struct Rules {
     pub limits: Limits,
     pub checks: Checks,
+    /// Bit rates, rising, each with the width that it gives.
+    pub rates: Vec<(i64, i64)>,
     pub slip: Slip,
 }
 
 impl Rules {
     pub fn right() -> Rules {
-        Rules { limits: right_limits(), checks: right_checks(), slip: Slip::None }
+        Rules { limits: right_limits(), checks: right_checks(), rates: RATES.to_vec(), slip: Slip::None }
     }
 
     pub fn slips(&self, slip: Slip) -> bool {
         self.slip == slip
     }
 }
+
+/// The bit rates that may be asked for, and their widths.
+pub const RATES: [(i64, i64); 5] = [(10, 1), (40, 1), (100, 2), (400, 8), (1000, 20)];
 
 fn right_limits() -> Limits {
     Limits {
@@ -88,10 +93,10 @@ fn right_checks() -> Checks {
         request_file: vec![20, FIELDS, EARLY_END],
         band_field: vec![1, 2, 3, 4],
         link_field: vec![1, 2, 3, 5],
-        demand_field: vec![1, 2, 3, 6, 8, 9, 7],
+        demand_field: vec![1, 2, 3, 6, 8, 21, 9, 7],
         other_field: vec![1, 2],
         memory: vec![4, 2, 5, 6],
-        memory_demand: vec![6, 8, 9, 3, 7],
+        memory_demand: vec![6, 8, 21, 9, 3, 7],
         request_writer: vec![REQUEST, 10],
         first_fit: vec![REQUEST, 12, 10, 13],
         search: vec![REQUEST, 11, 10],

@@ -1,5 +1,6 @@
 //! The tests of a request: its band, its links, its demands. Given in memory, the place is the listing position.
 
+use crate::rates::{width_of, Asked};
 use crate::request::{refuse, Band, Demand, Refusal, Request};
 use crate::rules::Rules;
 use crate::slips::Slip;
@@ -93,21 +94,38 @@ fn memory_place(number: u8, request: &Request, position: usize, rules: &Rules) -
         let ident = request.demands[position].ident;
         return request.demands.iter().position(|other| other.ident == ident).unwrap_or(position);
     }
-    position
+    match request.demands.get(position) {
+        Some(demand) if rules.slips(Slip::PlacePerTag) => of_its_tag(&request.demands[..position], demand),
+        Some(demand) if rules.slips(Slip::RateAsPlace) && number == 21 => demand.asked.number() as usize,
+        _ => position,
+    }
 }
 
 /// Whether the demand that would stand at `position` has the fault of that number. No demand there: only 6.
 pub fn demand_fault(number: u8, request: &Request, position: usize, demand: Option<&Demand>, rules: &Rules) -> bool {
     if number == 6 {
-        return position >= rules.limits.demands_most;
+        return counted(request, position, demand, rules) >= rules.limits.demands_most;
     }
     let Some(demand) = demand else { return false };
     match number {
         8 => ident_fault(&request.demands[..position], demand, rules),
-        9 => width_fault(&request.band, demand.width, rules),
+        21 => rate_fault(&request.band, demand.asked, rules),
+        9 => asked_fault(&request.band, demand.asked, rules),
         3 => demand.hops < rules.limits.hops_least || demand.hops > rules.limits.hops_most,
         _ => route_fault(request, &demand.route, rules),
     }
+}
+
+/// How many stand before: those by width and those by rate together.
+fn counted(request: &Request, position: usize, demand: Option<&Demand>, rules: &Rules) -> usize {
+    match demand {
+        Some(demand) if rules.slips(Slip::CountPerTag) => of_its_tag(&request.demands[..position], demand),
+        _ => position,
+    }
+}
+
+fn of_its_tag(before: &[Demand], demand: &Demand) -> usize {
+    before.iter().filter(|other| other.asked.tag() == demand.asked.tag()).count()
 }
 
 fn ident_fault(before: &[Demand], demand: &Demand, rules: &Rules) -> bool {
@@ -115,11 +133,31 @@ fn ident_fault(before: &[Demand], demand: &Demand, rules: &Rules) -> bool {
         return before.last().is_some_and(|other| other.ident == demand.ident);
     }
     if rules.slips(Slip::EqualDemandRefused)
-        && before.iter().any(|other| other.width == demand.width && other.route == demand.route)
+        && before.iter().any(|other| other.width(rules) == demand.width(rules) && other.route == demand.route)
     {
         return true;
     }
-    before.iter().any(|other| other.ident == demand.ident)
+    let apart = |other: &Demand| rules.slips(Slip::IdentsPerTag) && other.asked.tag() != demand.asked.tag();
+    before.iter().any(|other| other.ident == demand.ident && !apart(other))
+}
+
+/// 21: a rate that gives no width.
+fn rate_fault(band: &Band, asked: Asked, rules: &Rules) -> bool {
+    if rules.slips(Slip::UnknownRateAgainstSlots) && width_fault(band, asked.number(), rules) {
+        return false;
+    }
+    width_of(asked, rules).is_none()
+}
+
+/// 9, of the width that follows.
+fn asked_fault(band: &Band, asked: Asked, rules: &Rules) -> bool {
+    let width = width_of(asked, rules);
+    match rules.slip {
+        Slip::RateWidthUntested if asked.is_rate() => false,
+        Slip::RateHeldAgainstSlots => width_fault(band, asked.number(), rules),
+        Slip::UnknownRateAgainstSlots => width_fault(band, width.unwrap_or(asked.number()), rules),
+        _ => width.is_some_and(|width| width_fault(band, width, rules)),
+    }
 }
 
 pub fn width_fault(band: &Band, width: i64, rules: &Rules) -> bool {

@@ -2,7 +2,7 @@
 
 use crate::answers::answer;
 use crate::frames::Call;
-use crate::rules::{Checks, Limits, Rules, EARLY_END, FIELDS, REQUEST};
+use crate::rules::{Checks, Limits, Rules, EARLY_END, FIELDS, RATES, REQUEST};
 use crate::slips::SLIPS;
 
 pub struct Variant {
@@ -16,6 +16,7 @@ pub fn all() -> Vec<Variant> {
     variants.extend(reordered());
     variants.extend(moved());
     variants.extend(shifted());
+    variants.extend(other_tables());
     variants
 }
 
@@ -50,9 +51,14 @@ const LISTS: [(&str, List); 16] = [
 ];
 
 /// Neighbours that no call can have at once: a missing link and a link at fault; a 201st demand in memory, of which
-/// nothing is read; a row's ident unknown and already seen.
-const NEVER_AT_ONCE: [(&str, u8, u8); 3] =
-    [("request in memory", 2, 5), ("demand in memory", 6, 8), ("plan row", 14, 15)];
+/// nothing is read; a row's ident unknown and already seen; a rate without a width and a width at fault.
+const NEVER_AT_ONCE: [(&str, u8, u8); 5] = [
+    ("request in memory", 2, 5),
+    ("demand in memory", 6, 8),
+    ("plan row", 14, 15),
+    ("demand field", 21, 9),
+    ("demand in memory", 21, 9),
+];
 
 /// Every two neighbouring checks swapped.
 fn reordered() -> Vec<Variant> {
@@ -81,13 +87,23 @@ fn told(check: u8) -> String {
     }
 }
 
-/// A check moved further than to its neighbour's place.
+/// A check moved further than to its neighbour's place, or left out.
 fn moved() -> Vec<Variant> {
-    let orders: [(&str, List, &[u8]); 4] = [
+    let orders: [(&str, List, &[u8]); 14] = [
         ("request in memory: no link after the demands", |checks| &mut checks.memory, &[4, 5, 6, 2]),
         ("request in memory: the demands before the links", |checks| &mut checks.memory, &[4, 6, 2, 5]),
-        ("demand in memory: 3 first, as in files", |checks| &mut checks.memory_demand, &[3, 6, 8, 9, 7]),
-        ("demand field: 3 after 9, as in memory", |checks| &mut checks.demand_field, &[1, 2, 6, 8, 9, 3, 7]),
+        ("demand in memory: 3 first, as in files", |checks| &mut checks.memory_demand, &[3, 6, 8, 21, 9, 7]),
+        ("demand field: 3 after 9, as in memory", |checks| &mut checks.demand_field, &[1, 2, 6, 8, 21, 9, 3, 7]),
+        ("demand field: 21 before 1", |checks| &mut checks.demand_field, &[21, 1, 2, 3, 6, 8, 9, 7]),
+        ("demand field: 21 before 2", |checks| &mut checks.demand_field, &[1, 21, 2, 3, 6, 8, 9, 7]),
+        ("demand field: 21 before 3", |checks| &mut checks.demand_field, &[1, 2, 21, 3, 6, 8, 9, 7]),
+        ("demand field: 21 before 6", |checks| &mut checks.demand_field, &[1, 2, 3, 21, 6, 8, 9, 7]),
+        ("demand field: 21 after 7", |checks| &mut checks.demand_field, &[1, 2, 3, 6, 8, 9, 7, 21]),
+        ("demand field: no 21", |checks| &mut checks.demand_field, &[1, 2, 3, 6, 8, 9, 7]),
+        ("demand in memory: 21 after 3", |checks| &mut checks.memory_demand, &[6, 8, 9, 3, 21, 7]),
+        ("demand in memory: 21 after 7", |checks| &mut checks.memory_demand, &[6, 8, 9, 3, 7, 21]),
+        ("demand in memory: 3 before 21", |checks| &mut checks.memory_demand, &[6, 8, 3, 21, 9, 7]),
+        ("demand in memory: no 21", |checks| &mut checks.memory_demand, &[6, 8, 9, 3, 7]),
     ];
     let variant = |(name, list, order): (&str, List, &[u8])| {
         let mut rules = Rules::right();
@@ -135,6 +151,26 @@ fn shifted() -> Vec<Variant> {
         Variant { name: name.to_string(), rules }
     };
     shifts.into_iter().map(variant).collect()
+}
+
+/// Each row of the table of rates with a width one lower or one higher, each one left out, and rows that it does not have.
+fn other_tables() -> Vec<Variant> {
+    let variant = |name: String, rates: Vec<(i64, i64)>| Variant { name, rules: Rules { rates, ..Rules::right() } };
+    let mut variants = Vec::new();
+    for (at, (rate, width)) in RATES.into_iter().enumerate() {
+        for wrong in [width - 1, width + 1] {
+            let mut rates = RATES.to_vec();
+            rates[at].1 = wrong;
+            variants.push(variant(format!("a rate of {rate} gives {wrong}"), rates));
+        }
+        let rates = RATES.into_iter().filter(|row| row.0 != rate).collect();
+        variants.push(variant(format!("a rate of {rate} is not listed"), rates));
+    }
+    for (rate, width) in [(0, 1), (1, 1), (25, 1), (50, 1), (200, 4), (800, 16)] {
+        let rates = [&RATES[..], &[(rate, width)]].concat();
+        variants.push(variant(format!("a rate of {rate} gives {width}"), rates));
+    }
+    variants
 }
 
 /// The number, counted from 1, of the first call that the variant answers otherwise.

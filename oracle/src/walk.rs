@@ -203,7 +203,7 @@ impl Walk<'_> {
             (0..self.request.demand_count).filter(|position| !self.order.contains(position)).collect();
         match self.rules.slip {
             Slip::LastTriedFirst => left.reverse(),
-            Slip::WidestTriedFirst => left.sort_by_key(|&position| -self.request.width(position)),
+            Slip::WidestTriedFirst => left.sort_by_key(|&position| -self.request.width(position, self.rules)),
             _ => {}
         }
         left
@@ -225,7 +225,7 @@ impl Walk<'_> {
     fn place(&mut self, position: usize) {
         let start = lowest_start(&self.paint, self.request, position, None, self.rules).unwrap_or(0);
         let links = links_of(self.request, position, self.rules);
-        self.paint.paint(&links, start, self.request.width(position), position);
+        self.paint.paint(&links, start, self.request.width(position, self.rules), position);
         self.starts[position] = start;
         self.order.push(position);
         self.steps += 1;
@@ -233,12 +233,12 @@ impl Walk<'_> {
 
     fn take_back(&mut self, position: usize) {
         let links = links_of(self.request, position, self.rules);
-        self.paint.wipe(&links, self.starts[position], self.request.width(position));
+        self.paint.wipe(&links, self.starts[position], self.request.width(position, self.rules));
         self.order.pop();
     }
 
     fn largest_end(&self) -> i64 {
-        let end = |&position: &usize| self.starts[position] + self.request.width(position);
+        let end = |&position: &usize| self.starts[position] + self.request.width(position, self.rules);
         if self.rules.slips(Slip::EndOfLastStep) {
             return self.order.last().map_or(0, end);
         }

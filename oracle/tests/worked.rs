@@ -161,9 +161,9 @@ fn lightplan_prints_its_four_lines() {
 
 /// The numbers each call can refuse with, by op.
 fn refusals_of(op: u8) -> Vec<u8> {
-    let request = [4, 2, 5, 6, 8, 9, 3, 7];
+    let request = [4, 2, 5, 6, 8, 21, 9, 3, 7];
     let own: &[u8] = match op {
-        0x01 => return vec![20, 1, 2, 3, 4, 5, 6, 8, 9, 7],
+        0x01 => return vec![20, 1, 2, 3, 4, 5, 6, 8, 21, 9, 7],
         0x0A => return vec![4, 9, 17],
         0x0B => return vec![4, 19],
         0x03 => &[10],

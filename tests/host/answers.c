@@ -1,9 +1,11 @@
-/* What the library answers to searches of request files, for others to hold it against.
-     answers frames REQUEST..   frames for the second program, see docs/REPLAY.md: for each file that is accepted, a search with room to
-                                spare, and one with each of the three buffers short, just enough and longer, with every other
+/* What the library answers to request files read and searched, for others to hold it against.
+     answers frames REQUEST..   frames for the second program, see docs/REPLAY.md: for each file its reading, and where it is accepted a
+                                search with room to spare, and one with each of the three buffers short, just enough and longer, with
+                                every other
      answers lines REQUEST..    the lines that belong to these frames, from the library's answers
-     answers words REQUEST      the lines that lightdesk prints between the rows and the last one, from the starts, the order and the
-                                routes */
+     answers words REQUEST      the lines that lightdesk prints of a search between the rows and the last one, from the bytes of the file,
+                                the starts and the order
+     answers rates REQUEST      those of them that it prints of a check too */
 #include "seen.h"
 #include <stdio.h>
 #include <stdlib.h>
@@ -18,7 +20,14 @@ struct search {
 };
 
 static uint8_t file[LIGHTPLAN_REQUEST_BYTES + 1];
+static size_t file_bytes;
 static struct seen seen;
+
+/* all that the two calls that read tell of a file */
+static struct lightplan_request told;
+static struct lightplan_routes lists;
+static uint16_t idents[LIGHTPLAN_DEMANDS], widths[LIGHTPLAN_DEMANDS], rates[LIGHTPLAN_DEMANDS];
+static uint16_t ends[LIGHTPLAN_ENDS], hops[LIGHTPLAN_DEMANDS], routes[LIGHTPLAN_ROUTES];
 
 static void stop(const char *what, const char *name)
 {
@@ -29,17 +38,18 @@ static void stop(const char *what, const char *name)
 /* whether the file is accepted; what it says is then in `seen` */
 static int read_file(const char *name)
 {
-    uint16_t idents[LIGHTPLAN_DEMANDS], widths[LIGHTPLAN_DEMANDS];
     FILE *in = fopen(name, "rb");
     if (!in)
         stop("not to be read", name);
-    size_t bytes = fread(file, 1, sizeof file, in);
+    file_bytes = fread(file, 1, sizeof file, in);
     if (ferror(in))
         stop("not to be read", name);
     fclose(in);
-    if (lightplan_read(file, bytes, idents, LIGHTPLAN_DEMANDS, widths, LIGHTPLAN_DEMANDS).refusal != LIGHTPLAN_ANSWERED)
+    told = lightplan_read(file, file_bytes, idents, LIGHTPLAN_DEMANDS, widths, LIGHTPLAN_DEMANDS, rates, LIGHTPLAN_DEMANDS);
+    lists = lightplan_read_routes(file, file_bytes, ends, LIGHTPLAN_ENDS, hops, LIGHTPLAN_DEMANDS, routes, LIGHTPLAN_ROUTES);
+    if (told.refusal != LIGHTPLAN_ANSWERED)
         return 0;
-    see(&seen, file, bytes);
+    see(&seen, file, file_bytes);
     return 1;
 }
 
@@ -63,8 +73,9 @@ static void put_request(void)
         put(1, seen.ends[e]);
     put(2, seen.demands);
     for (size_t k = 0; k < seen.demands; k++) {
+        put(1, seen.rates[k] ? 5 : 3);
         put(2, seen.idents[k]);
-        put(2, seen.widths[k]);
+        put(2, seen.rates[k] ? seen.rates[k] : seen.widths[k]);
         put(1, seen.hops[k]);
         for (size_t h = 0; h < seen.hops[k]; h++)
             put(1, *link++);
@@ -74,14 +85,55 @@ static void put_request(void)
 static void put_frame(const struct search *search)
 {
     put(1, 6);
-    put(4, 4 + 3 * 2 + 5 + 2 + 2 * seen.links + 2 + 5 * seen.demands + seen.all_hops);
+    put(4, 4 + 3 * 2 + 5 + 2 + 2 * seen.links + 2 + 6 * seen.demands + seen.all_hops);
     put(4, search->limit);
     for (int b = 0; b < 3; b++)
         put(2, search->room[b]);
     put_request();
 }
 
+/* the file itself, to be read */
+static void put_reading(void)
+{
+    put(1, 1);
+    put(4, file_bytes);
+    fwrite(file, 1, file_bytes, stdout);
+}
+
 /* ---- lines */
+
+static void print_hex(int bytes, size_t number)
+{
+    printf("%0*zX", 2 * bytes, number);
+}
+
+/* the answer to a reading: the file written again from what the two calls tell of it, or the refusal */
+static void print_reading(void)
+{
+    const uint16_t *link = routes;
+    if (told.refusal) {
+        printf("refused %u %zu\n", told.refusal, told.place);
+        return;
+    }
+    printf("read 010005");
+    print_hex(2, (uint16_t)told.n0);
+    print_hex(2, told.slots);
+    print_hex(1, told.guard);
+    for (size_t l = 0; l < lists.links; l++) {
+        printf("020002");
+        print_hex(1, ends[2 * l]);
+        print_hex(1, ends[2 * l + 1]);
+    }
+    for (size_t k = 0; k < told.demands; k++) {
+        print_hex(1, rates[k] ? 5 : 3);
+        print_hex(2, 4u + hops[k]);
+        print_hex(2, idents[k]);
+        print_hex(2, rates[k] ? rates[k] : widths[k]);
+        for (size_t h = 0; h < hops[k]; h++)
+            print_hex(1, *link++);
+    }
+    putchar('\n');
+}
 
 static void print_entries(const uint16_t *entries, size_t count)
 {
@@ -122,11 +174,23 @@ static void each_search(void (*make)(const struct search *search))
 
 /* ---- words */
 
+static void print_rates(void)
+{
+    for (size_t k = 0; k < seen.demands; k++) {
+        if (seen.rates[k])
+            printf("circuit %u is booked at %u Gbit/s: %u ", seen.idents[k], seen.rates[k], seen.widths[k]);
+        if (seen.rates[k])
+            puts(seen.widths[k] > 1 ? "slots" : "slot");
+    }
+}
+
 static void print_words(void)
 {
     uint16_t starts[LIGHTPLAN_SEARCHED], order[LIGHTPLAN_SEARCHED], blockers[LIGHTPLAN_SEARCHED];
     struct lightplan_answer a = lightplan_search(seen.file, seen.bytes, LIMIT_OF_WORDS, starts, LIGHTPLAN_SEARCHED, order, LIGHTPLAN_SEARCHED,
                                                  blockers, LIGHTPLAN_SEARCHED);
+    if (!a.refusal)
+        print_rates();
     if (a.outcome != LIGHTPLAN_FINISHED && a.outcome != LIGHTPLAN_UNFINISHED)
         return;
     blockers_of(&seen, starts, order, blockers);
@@ -144,14 +208,22 @@ static void print_words(void)
 
 int main(int count, char **words)
 {
-    int frames = count > 2 && !strcmp(words[1], "frames"), lines = count > 2 && !strcmp(words[1], "lines");
-    if (!frames && !lines && !(count == 3 && !strcmp(words[1], "words")))
-        stop("usage", "answers frames REQUEST.. | lines REQUEST.. | words REQUEST");
+    const char *what = count > 2 ? words[1] : "";
+    int frames = !strcmp(what, "frames"), lines = !strcmp(what, "lines"), rates_alone = !strcmp(what, "rates");
+    if (!frames && !lines && !(count == 3 && (rates_alone || !strcmp(what, "words"))))
+        stop("usage", "answers frames REQUEST.. | lines REQUEST.. | words REQUEST | rates REQUEST");
     for (int k = 2; k < count; k++) {
-        if (!read_file(words[k]))
+        int accepted = read_file(words[k]);
+        if (frames)
+            put_reading();
+        else if (lines)
+            print_reading();
+        if (!accepted)
             continue;
         if (frames || lines)
             each_search(frames ? put_frame : print_line);
+        else if (rates_alone)
+            print_rates();
         else
             print_words();
     }

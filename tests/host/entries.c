@@ -44,17 +44,18 @@ static void hold_all_written(size_t entries)
 
 /* ---- lightplan_read */
 
-static struct lightplan_request read_with(const uint8_t *file, size_t bytes, size_t idents, size_t widths)
+static struct lightplan_request read_with(const uint8_t *file, size_t bytes, size_t idents, size_t widths, size_t rates)
 {
     uint16_t *first = lent_out(&first_lent, 2 * idents), *second = lent_out(&second_lent, 2 * widths);
-    return lightplan_read(file, bytes, first, idents, second, widths);
+    uint16_t *third = lent_out(&third_lent, 2 * rates);
+    return lightplan_read(file, bytes, first, idents, second, widths, third, rates);
 }
 
 static void hold_no_request(const struct lightplan_request *request)
 {
     HOLD(request->n0 == 0 && request->slots == 0 && request->guard == 0 && request->links == 0 && request->demands == 0 &&
          request->bound == 0);
-    hold_written(0);
+    hold_all_written(0);
 }
 
 static void hold_too_short(const struct lightplan_request *request, size_t needed)
@@ -63,32 +64,37 @@ static void hold_too_short(const struct lightplan_request *request, size_t neede
     hold_no_request(request);
 }
 
-static void hold_read(const struct seen *seen, size_t idents, size_t widths)
+static void hold_read(const struct seen *seen, size_t idents, size_t widths, size_t rates)
 {
-    struct lightplan_request request = read_with(seen->file, seen->bytes, idents, widths);
+    struct lightplan_request request = read_with(seen->file, seen->bytes, idents, widths, rates);
     HOLD(request.refusal == LIGHTPLAN_ANSWERED && request.place == 0);
     HOLD(request.n0 == seen->n0 && request.slots == seen->slots && request.guard == seen->guard);
     HOLD(request.links == seen->links && request.demands == seen->demands && request.bound == seen->bound);
     HOLD(!memcmp(first_lent.first + LENT_BYTES - 2 * idents, seen->idents, 2 * seen->demands));
     HOLD(!memcmp(second_lent.first + LENT_BYTES - 2 * widths, seen->widths, 2 * seen->demands));
-    hold_written(seen->demands);
+    HOLD(!memcmp(third_lent.first + LENT_BYTES - 2 * rates, seen->rates, 2 * seen->demands));
+    hold_all_written(seen->demands);
 }
 
+/* each of the three buffers short, just enough and longer, with every other */
 static void test_read(const struct seen *seen)
 {
-    size_t k = seen->demands;
-    struct lightplan_request request;
-    hold_read(seen, PLENTY, PLENTY);
-    hold_read(seen, k, k);
-    hold_read(seen, k, k + 1);
-    if (k == 0)
-        return;
-    request = read_with(seen->file, seen->bytes, k - 1, k);
-    hold_too_short(&request, k);
-    request = read_with(seen->file, seen->bytes, k, k - 1);
-    hold_too_short(&request, k);
-    request = read_with(seen->file, seen->bytes, 0, 0);
-    hold_too_short(&request, k);
+    size_t k = seen->demands, room[3] = {k, PLENTY, k - 1};
+    int rooms = k ? 3 : 2;
+    for (int i = 0; i < rooms; i++)
+        for (int w = 0; w < rooms; w++)
+            for (int r = 0; r < rooms; r++) {
+                if (i < 2 && w < 2 && r < 2) {
+                    hold_read(seen, room[i], room[w], room[r]);
+                    continue;
+                }
+                struct lightplan_request request = read_with(seen->file, seen->bytes, room[i], room[w], room[r]);
+                hold_too_short(&request, k);
+            }
+    if (k > 0) {
+        struct lightplan_request request = read_with(seen->file, seen->bytes, 0, 0, 0);
+        hold_too_short(&request, k);
+    }
 }
 
 /* ---- lightplan_read_routes */
@@ -408,7 +414,7 @@ static void test_version(void)
 /* with nothing lent, a pointer is not looked at */
 static void test_nothing(void)
 {
-    struct lightplan_request request = lightplan_read(NULL, 0, NULL, 0, NULL, 0);
+    struct lightplan_request request = lightplan_read(NULL, 0, NULL, 0, NULL, 0, NULL, 0);
     struct lightplan_answer answer = lightplan_search(NULL, 0, STEPS, NULL, 0, NULL, 0, NULL, 0);
     HOLD(request.refusal == LIGHTPLAN_WRONG_TAG && request.place == 0);
     HOLD(answer.refusal == LIGHTPLAN_WRONG_TAG && answer.place == 0);
@@ -422,7 +428,7 @@ static void test_nothing(void)
 static void test_no_demand(void)
 {
     static const uint8_t file[13] = {1, 0, 5, 0, 0, 0, 1, 0, 2, 0, 2, 0, 1};
-    struct lightplan_request request = lightplan_read(file, sizeof file, NULL, 0, NULL, 0);
+    struct lightplan_request request = lightplan_read(file, sizeof file, NULL, 0, NULL, 0, NULL, 0);
     struct lightplan_answer answer = lightplan_search(file, sizeof file, 0, NULL, 0, NULL, 0, NULL, 0);
     HOLD(request.refusal == LIGHTPLAN_ANSWERED && request.slots == 1 && request.links == 1 && request.demands == 0 && request.bound == 0);
     uint16_t ends[2] = {7, 7};
@@ -502,6 +508,41 @@ static void test_blocked(void)
     HOLD(same_found(&found, &known));
 }
 
+/* the five rates and a width, with every number known; and rates that are none */
+static void test_rates(void)
+{
+    uint8_t file[66] = {
+        1, 0, 5, 0, 0, 0, 20, 0,
+        2, 0, 2, 0, 1,
+        2, 0, 2, 1, 2,
+        5, 0, 5, 0, 1, 0, 10, 0,
+        5, 0, 5, 0, 2, 0, 40, 0,
+        3, 0, 5, 0, 3, 0, 1, 0,
+        5, 0, 5, 0, 4, 0, 100, 0,
+        5, 0, 5, 0, 5, 1, 144, 0,
+        5, 0, 5, 0, 6, 3, 232, 1,
+    };
+    static const uint16_t widths[6] = {1, 1, 1, 2, 8, 20}, rates[6] = {10, 40, 0, 100, 400, 1000};
+    static const unsigned unknown[] = {0, 1, 2, 8, 9, 11, 20, 39, 41, 99, 101, 200, 399, 401, 999, 1001, 10000, 65535};
+    struct lightplan_request told = read_with(file, sizeof file, 6, 6, 6);
+    HOLD(told.refusal == LIGHTPLAN_ANSWERED && told.demands == 6 && told.bound == 20);
+    HOLD(!memcmp(second_lent.first + LENT_BYTES - 12, widths, 12) && !memcmp(third_lent.first + LENT_BYTES - 12, rates, 12));
+    file[6] = 19;
+    told = read_with(file, sizeof file, 6, 6, 6);
+    HOLD(told.refusal == LIGHTPLAN_BAD_WIDTH && told.place == 58);
+    hold_no_request(&told);
+    for (size_t u = 0; u < sizeof unknown / sizeof unknown[0]; u++) {
+        file[63] = (uint8_t)(unknown[u] >> 8);
+        file[64] = (uint8_t)unknown[u];
+        told = read_with(file, sizeof file, 6, 6, 6);
+        HOLD(told.refusal == LIGHTPLAN_UNKNOWN_RATE && told.place == 58);
+        hold_no_request(&told);
+    }
+    file[62] = 5;
+    told = read_with(file, sizeof file, 0, 0, 0);
+    HOLD(told.refusal == LIGHTPLAN_IDENT_USED && told.place == 58);
+}
+
 /* ---- files */
 
 /* the bytes of a file, lent; 0 where there is no such file */
@@ -544,7 +585,7 @@ static void test_file(const char *name)
     char plan_name[NAME_BYTES];
     now_testing = name;
     HOLD(lend_file(name, &request_lent, &file, &bytes));
-    struct lightplan_request request = read_with(file, bytes, PLENTY, PLENTY);
+    struct lightplan_request request = read_with(file, bytes, PLENTY, PLENTY, PLENTY);
     if (request.refusal != LIGHTPLAN_ANSWERED) {
         test_refused(file, bytes, &request);
         return;
@@ -573,6 +614,7 @@ int main(int count, char **words)
     test_no_demand();
     test_known();
     test_blocked();
+    test_rates();
     for (int k = 1; k < count; k++) {
         if (!strstr(words[k], ".request")) {
             fprintf(stderr, "entries: not a request file: %s\n", words[k]);

@@ -8,22 +8,38 @@ static uint32_t bound_of(const struct seen *seen)
     int32_t needs[64], most = 0;
     for (int l = 0; l < 64; l++)
         needs[l] = -(int32_t)seen->guard;
-    for (size_t at = 8 + 5 * seen->links; at < seen->bytes; at += 3 + two(seen->file + at + 1))
-        for (unsigned k = 4; k < two(seen->file + at + 1); k++) {
-            int32_t *need = &needs[seen->file[at + 3 + k]];
-            *need += (int32_t)(two(seen->file + at + 5) + seen->guard);
+    for (size_t k = 0, at = 0; k < seen->demands; k++)
+        for (size_t h = 0; h < seen->hops[k]; h++) {
+            int32_t *need = &needs[seen->routes[at++]];
+            *need += (int32_t)(seen->widths[k] + seen->guard);
             if (most < *need)
                 most = *need;
         }
     return (uint32_t)most;
 }
 
-/* reads off the field of one demand */
+/* the slots that a bit rate takes */
+static unsigned slots_of(unsigned rate)
+{
+    switch (rate) {
+    case 100:
+        return 2;
+    case 400:
+        return 8;
+    case 1000:
+        return 20;
+    default:
+        return 1;
+    }
+}
+
+/* reads off the field of one demand, by width or by rate */
 static void see_demand(struct seen *seen, const uint8_t *field)
 {
     size_t hops = two(field + 1) - 4, k = seen->demands++;
     seen->idents[k] = (uint16_t)two(field + 3);
-    seen->widths[k] = (uint16_t)two(field + 5);
+    seen->rates[k] = (uint16_t)(field[0] == 5 ? two(field + 5) : 0);
+    seen->widths[k] = (uint16_t)(field[0] == 5 ? slots_of(two(field + 5)) : two(field + 5));
     seen->hops[k] = (uint16_t)hops;
     for (size_t h = 0; h < hops; h++) {
         seen->routes[seen->all_hops++] = field[7 + h];

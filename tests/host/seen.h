@@ -4,14 +4,15 @@
 
 #include "../../hosts/c/lightplan.h"
 
-/* what a request file says, read off an accepted file's bytes; of each demand also its route's links as bits */
+/* what a request file says, read off an accepted file's bytes: of each demand its width, the rate that it asks for or 0, and its route's
+   links, as bits too */
 struct seen {
     const uint8_t *file;
     size_t bytes, links, demands;
     int n0;
     unsigned slots, guard;
     uint32_t bound;
-    uint16_t idents[LIGHTPLAN_DEMANDS], widths[LIGHTPLAN_DEMANDS];
+    uint16_t idents[LIGHTPLAN_DEMANDS], widths[LIGHTPLAN_DEMANDS], rates[LIGHTPLAN_DEMANDS];
     uint16_t ends[LIGHTPLAN_ENDS], hops[LIGHTPLAN_DEMANDS], routes[LIGHTPLAN_ROUTES];
     size_t all_hops;
     uint64_t links_of[LIGHTPLAN_DEMANDS];

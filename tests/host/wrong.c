@@ -54,6 +54,12 @@ enum fault {
     BLOCKERS_WITHOUT,
     BLOCKERS_REFUSED,
     BLOCKERS_ROOM,
+    READ_RATE,
+    READ_RATE_OF_WIDTH,
+    READ_WIDTH_OF_RATE,
+    RATES_BEHIND,
+    RATES_REFUSED,
+    RATES_ROOM,
     FAULTS
 };
 
@@ -65,12 +71,32 @@ static int is(enum fault fault)
 
 static volatile uint8_t looked_at;
 
-struct lightplan_request __real_lightplan_read(const uint8_t *, size_t, uint16_t *, size_t, uint16_t *, size_t);
+struct lightplan_request __real_lightplan_read(const uint8_t *, size_t, uint16_t *, size_t, uint16_t *, size_t, uint16_t *, size_t);
+
+/* the first demand by rate told with another rate, each demand by width with a rate of 10, each by rate with a width of 1 */
+static void spoil_rates(size_t count, uint16_t *widths, uint16_t *rates)
+{
+    int spoilt = 0;
+    for (size_t k = 0; k < count; k++) {
+        if (!rates[k] && is(READ_RATE_OF_WIDTH))
+            rates[k] = 10;
+        else if (rates[k] && is(READ_WIDTH_OF_RATE))
+            widths[k] = 1;
+        else if (rates[k] && !spoilt++ && is(READ_RATE))
+            rates[k] = rates[k] == 10 ? 40 : 10;
+    }
+}
 
 struct lightplan_request __wrap_lightplan_read(const uint8_t *file, size_t file_bytes, uint16_t *idents, size_t idents_count,
-                                               uint16_t *widths, size_t widths_count)
+                                               uint16_t *widths, size_t widths_count, uint16_t *rates, size_t rates_count)
 {
-    struct lightplan_request r = __real_lightplan_read(file, file_bytes, idents, idents_count, widths, widths_count);
+    uint16_t others[LIGHTPLAN_DEMANDS];
+    struct lightplan_request r =
+        __real_lightplan_read(file, file_bytes, idents, idents_count, widths, widths_count, rates, rates_count);
+    if (r.refusal == LIGHTPLAN_BUFFER_SHORT && rates_count < r.place && is(RATES_ROOM))
+        return __real_lightplan_read(file, file_bytes, idents, idents_count, widths, widths_count, others, LIGHTPLAN_DEMANDS);
+    if (r.refusal && is(RATES_REFUSED) && rates_count)
+        rates[0] = 0;
     r.place += is(READ_PLACE) && r.refusal;
     if (r.refusal && is(READ_WRITES_REFUSED) && widths_count)
         widths[0] = 0;
@@ -84,6 +110,9 @@ struct lightplan_request __wrap_lightplan_read(const uint8_t *file, size_t file_
         idents[0] ^= 256;
     if (r.demands < widths_count && is(READ_BEHIND))
         widths[r.demands] = 0;
+    if (r.demands < rates_count && is(RATES_BEHIND))
+        rates[r.demands] = 0;
+    spoil_rates(r.demands, widths, rates);
     return r;
 }
 
@@ -114,13 +143,14 @@ struct lightplan_routes __wrap_lightplan_read_routes(const uint8_t *file, size_t
 /* what a fault of the blockers goes by: how many demands there are, and their widths */
 struct demands {
     size_t count;
-    uint16_t idents[LIGHTPLAN_DEMANDS], widths[LIGHTPLAN_DEMANDS];
+    uint16_t idents[LIGHTPLAN_DEMANDS], widths[LIGHTPLAN_DEMANDS], rates[LIGHTPLAN_DEMANDS];
 };
 
 static struct demands demands_of(const uint8_t *file, size_t file_bytes)
 {
     struct demands d;
-    d.count = __real_lightplan_read(file, file_bytes, d.idents, LIGHTPLAN_DEMANDS, d.widths, LIGHTPLAN_DEMANDS).demands;
+    d.count = __real_lightplan_read(file, file_bytes, d.idents, LIGHTPLAN_DEMANDS, d.widths, LIGHTPLAN_DEMANDS, d.rates, LIGHTPLAN_DEMANDS)
+                  .demands;
     return d;
 }
 

@@ -13,14 +13,14 @@ use Rattle.request.specs.declared.Written.{Written}
 use Rattle.request.specs.declared.Written.the-variants.{Wrote, Refused as Unwritten}
 use Rattle.request.specs.declared.Link.{Link}
 use Rattle.request.specs.declared.Demand.{Demand}
-use Rattle.request.specs.View.{DemandView, View, viewDemand, noLink, noDemand, demandAt, idents, noEntry}
+use Rattle.request.specs.View.{DemandView, View, viewDemand, noLink, noDemand, demandAt, noEntry}
 use Rattle.request.specs.Check.{then, check}
-use Rattle.request.specs.CheckLaws.{first-sound}
+use Rattle.request.specs.CheckLaws.{first-sound, then-sound, then-refused}
 use Rattle.writing.specs.inner.Ready.{RoutesFit}
 use Rattle.lent.specs.LentLaws.{sets-then, over-more}
 use Rattle.meeting.specs.AskedLaws.{map-at}
-use Rattle.lent.specs.Lent.{checkRoom, over, unlessRefused, writeAnswer}
-use Rattle.columns.specs.Columns.{widths, hopCounts, routeLinks, linkEnds, checkDemandColumns, checkRouteColumns, demandReply, routeReply, identsAfter, widthsAfter, endsAfter, hopsAfter, routesAfter}
+use Rattle.lent.specs.Lent.{checkRoom, checkRooms, over, unlessRefused, writeAnswer}
+use Rattle.columns.specs.Columns.{hopCounts, routeLinks, linkEnds, DemandBuffers, demandRooms, checkDemandColumns, checkRouteColumns, demandReply, routeReply, demandsOver, demandsAfter, endsAfter, hopsAfter, routesAfter}
 
 -- ---- a column of the demands, written to a buffer
 
@@ -140,28 +140,14 @@ module _ (demands : List Demand) (count : ℕ) (fit : RoutesFit demands count) (
 
 -- ---- what is tested
 
+-- a sound request: the rooms decide
+pub demands-fit : (v : View) (rooms : List ℕ) → check v ≡ Sound → checkDemandColumns v rooms ≡ checkRooms (v .demandCount) rooms
+unfolding checkDemandColumns
+demands-fit v rooms sound = then-sound (check v) (checkRooms (v .demandCount) rooms) sound
+
 -- the test for a column of n entries
 fit : (column : List ℕ) (room n : ℕ) (told : Checked) → length column ≡ n → checkRoom n room ≡ told → checkRoom (length column) room ≡ told
 fit column room n told e h = ap (λ (m : ℕ). checkRoom m room) e ∙ h
-
-module _ (v : View) (a b K : ℕ) (sound : check v ≡ Sound) (there : length (v .demands) ≡ K) where
-  idents-length : length (idents (v .demands)) ≡ K
-  unfolding idents
-  idents-length = length-map (v .demands) (λ (d : DemandView). d .ident) ∙ there
-
-  widths-length : length (widths (v .demands)) ≡ K
-  unfolding widths
-  widths-length = length-map (v .demands) (λ (d : DemandView). d .width) ∙ there
-
-  -- no room for the idents
-  pub no-idents : (why : Refusal) → checkRoom K a ≡ Refused why → checkDemandColumns v a b ≡ Refused why
-  unfolding checkDemandColumns then
-  no-idents why h = rw (sound, fit (idents (v .demands)) a K (Refused why) idents-length h)
-
-  -- room for them: that for the widths decides
-  pub demands-fit : (told : Checked) → checkRoom K a ≡ Sound → checkRoom K b ≡ told → checkDemandColumns v a b ≡ told
-  unfolding checkDemandColumns then
-  demands-fit told h k = rw (sound, fit (idents (v .demands)) a K Sound idents-length h) (fit (widths (v .demands)) b K told widths-length k)
 
 module _ (v : View) (a b c L K H : ℕ) (sound : check v ≡ Sound) (links : length (v .links) ≡ L) (demands : length (v .demands) ≡ K) (hops : length (routeLinks (v .demands)) ≡ H) where
   both-ends : length (linkEnds (v .links)) ≡ 2 * L
@@ -189,9 +175,9 @@ module _ (v : View) (a b c L K H : ℕ) (sound : check v ≡ Sound) (links : len
       (fit (routeLinks (v .demands)) c H told hops l)
 
 -- what passes is sound
-pub demands-sound : (v : View) (a b : ℕ) → checkDemandColumns v a b ≡ Sound → check v ≡ Sound
+pub demands-sound : (v : View) (rooms : List ℕ) → checkDemandColumns v rooms ≡ Sound → check v ≡ Sound
 unfolding checkDemandColumns
-demands-sound v a b h = first-sound (check v) (then (checkRoom (length (idents (v .demands))) a) (checkRoom (length (widths (v .demands))) b)) h
+demands-sound v rooms h = first-sound (check v) (checkRooms (v .demandCount) rooms) h
 
 pub routes-sound : (v : View) (a b c : ℕ) → checkRouteColumns v a b c ≡ Sound → check v ≡ Sound
 unfolding checkRouteColumns
@@ -199,9 +185,9 @@ routes-sound v a b c h =
     first-sound (check v) (then (checkRoom (length (linkEnds (v .links))) a) (then (checkRoom (length (hopCounts (v .demands))) b) (checkRoom (length (routeLinks (v .demands))) c))) h
 
 -- an unsound request: its fault
-pub demands-unsound : (v : View) (a b : ℕ) (why : Refusal) → check v ≡ Refused why → checkDemandColumns v a b ≡ Refused why
-unfolding checkDemandColumns then
-demands-unsound v a b why h = rw h
+pub demands-unsound : (v : View) (rooms : List ℕ) (why : Refusal) → check v ≡ Refused why → checkDemandColumns v rooms ≡ Refused why
+unfolding checkDemandColumns
+demands-unsound v rooms why h = then-refused (check v) (checkRooms (v .demandCount) rooms) why h
 
 pub routes-unsound : (v : View) (a b c : ℕ) (why : Refusal) → check v ≡ Refused why → checkRouteColumns v a b c ≡ Refused why
 unfolding checkRouteColumns then
@@ -209,19 +195,18 @@ routes-unsound v a b c why h = rw h
 
 -- ---- what is answered, and what the buffers hold
 
-module _ (v : View) (i w : List ℕ) where
-  -- refused: both buffers as they were
-  pub demands-refused : (why : Refusal) → checkDemandColumns v (length i) (length w) ≡ Refused why →
-      (Unwritten why ≡ demandReply v (length i) (length w)) × ((i ≡ identsAfter v i w) × (w ≡ widthsAfter v i w))
-  unfolding demandReply writeAnswer identsAfter widthsAfter unlessRefused
-  demands-refused why h = rw h (refl, (refl, refl))
+module _ (v : View) (lent : DemandBuffers) where
+  -- refused: the buffers for the demands as they were
+  pub demands-refused : (why : Refusal) → checkDemandColumns v (demandRooms lent) ≡ Refused why →
+      (Unwritten why ≡ demandReply v (demandRooms lent)) × (lent ≡ demandsAfter v lent)
+  unfolding demandReply writeAnswer demandsAfter unlessRefused
+  demands-refused why h = rw h (refl, refl)
 
-  -- passed: the two columns
-  pub demands-written : checkDemandColumns v (length i) (length w) ≡ Sound →
-      (Wrote (v .demandCount) ≡ demandReply v (length i) (length w)) ×
-      ((over (idents (v .demands)) i ≡ identsAfter v i w) × (over (widths (v .demands)) w ≡ widthsAfter v i w))
-  unfolding demandReply writeAnswer identsAfter widthsAfter unlessRefused
-  demands-written h = rw h (refl, (refl, refl))
+  -- passed: their columns
+  pub demands-written : checkDemandColumns v (demandRooms lent) ≡ Sound →
+      (Wrote (v .demandCount) ≡ demandReply v (demandRooms lent)) × (demandsOver (v .demands) lent ≡ demandsAfter v lent)
+  unfolding demandReply writeAnswer demandsAfter unlessRefused
+  demands-written h = rw h (refl, refl)
 
 module _ (v : View) (e h r : List ℕ) where
   -- refused: all three buffers as they were
@@ -242,11 +227,10 @@ module _ (v : View) (e h r : List ℕ) where
 -- ---- one answer
 
 -- two results of `demand_columns` are equal
-pub same-demand-columns : (v : View) (i w : List ℕ) (a a′ : Written) (x x′ y y′ : List ℕ) →
-    a ≡ demandReply v (length i) (length w) → a′ ≡ demandReply v (length i) (length w) →
-    x ≡ identsAfter v i w → x′ ≡ identsAfter v i w → y ≡ widthsAfter v i w → y′ ≡ widthsAfter v i w →
-    (a ≡ a′) × (x ≡ x′) × (y ≡ y′)
-same-demand-columns v i w a a′ x x′ y y′ h h′ k k′ l l′ = (h ∙ sym h′, k ∙ sym k′, l ∙ sym l′)
+pub same-demand-columns : (v : View) (lent : DemandBuffers) (a a′ : Written) (after after′ : DemandBuffers) →
+    a ≡ demandReply v (demandRooms lent) → a′ ≡ demandReply v (demandRooms lent) →
+    after ≡ demandsAfter v lent → after′ ≡ demandsAfter v lent → (a ≡ a′) × (after ≡ after′)
+same-demand-columns v lent a a′ after after′ h h′ k k′ = (h ∙ sym h′, k ∙ sym k′)
 
 -- two results of `route_columns` are equal
 pub same-route-columns : (v : View) (e h r : List ℕ) (a a′ : Written) (x x′ y y′ z z′ : List ℕ) →
@@ -263,12 +247,10 @@ unfolding writeAnswer
 count-refused Sound n why e = absurd (let z : _≡_ {A = ℕ} 0 1 = cc in omega arith)
 count-refused (Refused why′) n why e = let same : why′ ≡ why = cc in ap Refused same
 
-pub demands-refused-keep : (v : View) (i w : List ℕ) (why : Refusal) → demandReply v (length i) (length w) ≡ Unwritten why →
-    (identsAfter v i w ≡ i) × (widthsAfter v i w ≡ w)
+pub demands-refused-keep : (v : View) (lent : DemandBuffers) (why : Refusal) → demandReply v (demandRooms lent) ≡ Unwritten why → demandsAfter v lent ≡ lent
 unfolding demandReply
-demands-refused-keep v i w why e =
-    let kept = demands-refused v i w why (count-refused (checkDemandColumns v (length i) (length w)) (v .demandCount) why e) in
-    (sym (kept .1 .0), sym (kept .1 .1))
+demands-refused-keep v lent why e =
+    sym (demands-refused v lent why (count-refused (checkDemandColumns v (demandRooms lent)) (v .demandCount) why e) .1)
 
 pub routes-refused-keep : (v : View) (e h r : List ℕ) (why : Refusal) → routeReply v (length e) (length h) (length r) ≡ Unwritten why →
     (endsAfter v e h r ≡ e) × (hopsAfter v e h r ≡ h) × (routesAfter v e h r ≡ r)

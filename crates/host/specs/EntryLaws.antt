@@ -19,7 +19,7 @@ use Rattle.request.specs.declared.Checked.{Checked}
 use Rattle.request.specs.declared.Checked.the-variants as checked
 use Rattle.request.specs.declared.Written.{Written}
 use Rattle.request.specs.declared.Written.the-variants.{Wrote}
-use Rattle.request.specs.View.{View, idents}
+use Rattle.request.specs.View.{View}
 use Rattle.request.specs.Check.{check}
 use Rattle.request.specs.SoundLaws.{check-sound}
 use Rattle.reading.specs.Reading.{FileReading, refused, accepted, readFile}
@@ -41,7 +41,7 @@ use Rattle.plan.specs.declared.CheckReply.the-variants as check-reply
 use Rattle.plan.specs.CheckStarts.{startsReply}
 use Rattle.planfile.specs.PlanReading as plan
 use Rattle.planfile.specs.PlanReadingLaws.{plan-request-refused}
-use Rattle.columns.specs.Columns.{widths, hopCounts, routeLinks, linkEnds, checkDemandColumns, checkRouteColumns, demandReply, routeReply}
+use Rattle.columns.specs.Columns.{hopCounts, routeLinks, linkEnds, DemandBuffers, demandRooms, checkDemandColumns, checkRouteColumns, demandReply, routeReply, demandsOver}
 use Rattle.columns.specs.ColumnsLaws.{demands-sound, demands-fit, demands-refused, demands-written, routes-fit, routes-refused, routes-written}
 use Rattle.host.specs.declared.LightplanRequest.{LightplanRequest}
 use Rattle.host.specs.declared.LightplanRoutes.{LightplanRoutes}
@@ -49,9 +49,9 @@ use Rattle.host.specs.declared.LightplanAnswer.{LightplanAnswer}
 use Rattle.host.specs.declared.LightplanVerdict.{LightplanVerdict}
 use Rattle.host.specs.declared.LightplanFrequency.{LightplanFrequency}
 use Rattle.search.specs.Reply.{outcomeNumber}
-use Rattle.host.specs.Host.{version, requestRefused, requestTold, requestAfter, requestEntry, identsRead, widthsRead, routesRefused, routesTold, routesEntry, endsRead, hopsRead, routesRead, answerRefused, searchTold, answerEntry, buffersSearched, verdictRefused, whichOf, checkTold, verdictEntry, startsRead, startsEntry, frequencyTold, frequencyEntry}
+use Rattle.host.specs.Host.{version, requestRefused, requestTold, requestAfter, requestEntry, demandsRead, routesRefused, routesTold, routesEntry, endsRead, hopsRead, routesRead, answerRefused, searchTold, answerEntry, buffersSearched, verdictRefused, whichOf, checkTold, verdictEntry, startsRead, startsEntry, frequencyTold, frequencyEntry}
 use Rattle.lent.specs.Lent.{unlessRefused, over, writeAnswer}
-use Rattle.lent.specs.LentLaws.{room-enough}
+use Rattle.lent.specs.LentLaws.{room-enough, rooms-with, rooms-none}
 use Rattle.search.specs.ReplyLaws.{same-outcome, same-numbers}
 
 -- ---- one answer
@@ -60,13 +60,11 @@ use Rattle.search.specs.ReplyLaws.{same-outcome, same-numbers}
 pub same-version : (r r′ : ℕ) → r ≡ version → r′ ≡ version → r ≡ r′
 same-version r r′ h h′ = h ∙ sym h′
 
--- two results of `lightplan_read` are equal
-pub same-request : (file idents widths : List ℕ) (r r′ : LightplanRequest) (i i′ w w′ : List ℕ) →
-    r ≡ requestEntry (readFile file) (length idents) (length widths) → r′ ≡ requestEntry (readFile file) (length idents) (length widths) →
-    i ≡ identsRead (readFile file) idents widths → i′ ≡ identsRead (readFile file) idents widths →
-    w ≡ widthsRead (readFile file) idents widths → w′ ≡ widthsRead (readFile file) idents widths →
-    (r ≡ r′) × (i ≡ i′) × (w ≡ w′)
-same-request file idents widths r r′ i i′ w w′ hr hr′ hi hi′ hw hw′ = (hr ∙ sym hr′, hi ∙ sym hi′, hw ∙ sym hw′)
+-- two results of `lightplan_read` are equal, and leave the same in the buffers
+pub same-request : (file : List ℕ) (lent : DemandBuffers) (r r′ : LightplanRequest) (after after′ : DemandBuffers) →
+    r ≡ requestEntry (readFile file) (demandRooms lent) → r′ ≡ requestEntry (readFile file) (demandRooms lent) →
+    after ≡ demandsRead (readFile file) lent → after′ ≡ demandsRead (readFile file) lent → (r ≡ r′) × (after ≡ after′)
+same-request file lent r r′ after after′ hr hr′ ha ha′ = (hr ∙ sym hr′, ha ∙ sym ha′)
 
 -- two results of `lightplan_read_routes` are equal
 pub same-routes : (file ends hops routes : List ℕ) (r r′ : LightplanRoutes) (e e′ h h′ t t′ : List ℕ) →
@@ -102,9 +100,9 @@ same-frequency n0 S G s w r r′ h h′ = h ∙ sym h′
 
 -- a file that is refused: the reader's refusal, whatever the call
 module _ (file : List ℕ) (why : Refusal) (read : readFile file ≡ refused why) where
-  pub read-refused : (a b : ℕ) → requestEntry (readFile file) a b ≡ requestRefused why
+  pub read-refused : (rooms : List ℕ) → requestEntry (readFile file) rooms ≡ requestRefused why
   unfolding requestEntry
-  read-refused a b = ap (λ (r : FileReading). requestEntry r a b) read
+  read-refused rooms = ap (λ (r : FileReading). requestEntry r rooms) read
 
   pub read-routes-refused : (a b c : ℕ) → routesEntry (readFile file) a b c ≡ routesRefused why
   unfolding routesEntry
@@ -138,19 +136,17 @@ module _ (file : List ℕ) (v : View) (bytes : Bytes file) (read : readFile file
   bounded : boundReply v ≡ bound-reply.Bound (boundOf v)
   bounded = sym (bound-answered v (boundOf v) sound refl)
 
-  -- with room in both buffers: the request with its bound, its idents and its widths
-  pub read-answers : (i w : List ℕ) → v .demandCount ≤ length i → v .demandCount ≤ length w →
-      (requestEntry (readFile file) (length i) (length w) ≡ requestTold (bound-reply.Bound (boundOf v)) v) ×
-      (identsRead (readFile file) i w ≡ over (idents (v .demands)) i) ×
-      (widthsRead (readFile file) i w ≡ over (widths (v .demands)) w)
-  unfolding requestEntry requestAfter identsRead widthsRead
-  read-answers i w h k =
-      let enough = demands-fit v (length i) (length w) (v .demandCount) sound demands-there checked.Sound (sym (room-enough _ _ h)) (sym (room-enough _ _ k)) in
-      let told = demands-written v i w enough in (
-        ap (λ (r : FileReading). requestEntry r (length i) (length w)) read
+  -- with room in each buffer: the request with its bound, and the columns of its demands
+  pub read-answers : (lent : DemandBuffers) → v .demandCount ≤ length (lent .idents) → v .demandCount ≤ length (lent .widths) → v .demandCount ≤ length (lent .rates) →
+      (requestEntry (readFile file) (demandRooms lent) ≡ requestTold (bound-reply.Bound (boundOf v)) v) ×
+      (demandsRead (readFile file) lent ≡ demandsOver (v .demands) lent)
+  unfolding requestEntry requestAfter demandsRead demandRooms
+  read-answers lent h k l =
+      let roomy = rooms-with _ _ _ h (rooms-with _ _ _ k (rooms-with _ _ _ l (rooms-none (v .demandCount)))) in
+      let told = demands-written v lent (demands-fit v (demandRooms lent) sound ∙ roomy) in (
+        ap (λ (r : FileReading). requestEntry r (demandRooms lent)) read
             ∙ (ap (λ (a : Written). requestAfter a v) (sym (told .0)) ∙ ap (λ (b : BoundReply). requestTold b v) bounded),
-        ap (λ (r : FileReading). identsRead r i w) read ∙ sym (told .1 .0),
-        ap (λ (r : FileReading). widthsRead r i w) read ∙ sym (told .1 .1),
+        ap (λ (r : FileReading). demandsRead r lent) read ∙ sym (told .1),
       )
 
   -- with room in all three buffers: how many links, demands and links of routes there are, and the three columns
@@ -275,18 +271,16 @@ unfolding checkTold plan.planReply plan.planStarts
 plan-refused-keeps v starts (plan.refused why) h = refl
 plan-refused-keeps v starts (plan.accepted found) h = absurd (h refl)
 
-pub read-refused-keeps : (read : FileReading) (i w : List ℕ) → requestEntry read (length i) (length w) .refusal ≢ 0 →
-    (identsRead read i w ≡ i) × (widthsRead read i w ≡ w)
-unfolding requestEntry requestAfter requestTold identsRead widthsRead demandReply writeAnswer
-read-refused-keeps (refused why) i w h = (refl, refl)
-read-refused-keeps (accepted v) i w h =
-    let tests = checkDemandColumns v (length i) (length w) in
+pub read-refused-keeps : (read : FileReading) (lent : DemandBuffers) → requestEntry read (demandRooms lent) .refusal ≢ 0 → demandsRead read lent ≡ lent
+unfolding requestEntry requestAfter requestTold demandsRead demandReply writeAnswer
+read-refused-keeps (refused why) lent h = refl
+read-refused-keeps (accepted v) lent h =
+    let tests = checkDemandColumns v (demandRooms lent) in
     by-check tests
     (λ (passed : tests ≡ checked.Sound).
-    let bounded : boundReply v ≡ bound-reply.Bound (boundOf v) = sym (bound-answered v (boundOf v) (demands-sound v (length i) (length w) passed) refl) in
+    let bounded : boundReply v ≡ bound-reply.Bound (boundOf v) = sym (bound-answered v (boundOf v) (demands-sound v (demandRooms lent) passed) refl) in
     absurd (h (ap (λ (c : Checked). requestAfter (writeAnswer c (v .demandCount)) v .refusal) passed ∙ ap (λ (b : BoundReply). requestTold b v .refusal) bounded)))
-    (λ (why : Refusal) (failed : tests ≡ checked.Refused why).
-    let kept = demands-refused v i w why failed in (sym (kept .1 .0), sym (kept .1 .1)))
+    (λ (why : Refusal) (failed : tests ≡ checked.Refused why). sym (demands-refused v lent why failed .1))
 
 pub read-routes-refused-keeps : (read : FileReading) (e h r : List ℕ) → routesEntry read (length e) (length h) (length r) .refusal ≢ 0 →
     (endsRead read e h r ≡ e) × (hopsRead read e h r ≡ h) × (routesRead read e h r ≡ r)

@@ -1,5 +1,5 @@
 -- All that a program in C is told of a request file by the two calls that read: both answers, and what they leave at the front of the
--- five buffers.
+-- six buffers.
 use Prim.Native.Nat.{ℕ, _*_}
 use mathlib.Core.List.{List}
 use lib.ListN.{length, take}
@@ -8,15 +8,14 @@ use Rattle.request.specs.View.{View, idents}
 use Rattle.reading.specs.Reading.{FileReading}
 use Rattle.meeting.specs.declared.BoundReply.the-variants as bound-reply
 use Rattle.meeting.specs.Bound.{boundOf}
-use Rattle.columns.specs.Columns.{widths, hopCounts, routeLinks, linkEnds}
+use Rattle.columns.specs.Columns.{widths, rates, hopCounts, routeLinks, linkEnds, DemandBuffers, demandRooms}
 use Rattle.host.specs.declared.LightplanRequest.{LightplanRequest}
 use Rattle.host.specs.declared.LightplanRoutes.{LightplanRoutes}
-use Rattle.host.specs.Host.{requestTold, requestEntry, identsRead, widthsRead, routesTold, routesEntry, endsRead, hopsRead, routesRead}
+use Rattle.host.specs.Host.{requestTold, requestEntry, demandsRead, routesTold, routesEntry, endsRead, hopsRead, routesRead}
 
--- the buffers that are lent to the two calls, with what they hold
+-- the buffers that are lent to the two calls, with what they hold: those for the demands, and those for the links and the routes
 pub record Buffers : Type 0 where
-  pub idents : List ℕ
-  pub widths : List ℕ
+  pub demands : DemandBuffers
   pub ends : List ℕ
   pub hops : List ℕ
   pub routes : List ℕ
@@ -27,13 +26,14 @@ pub record FileTold : Type 0 where
   pub lists : LightplanRoutes
   pub idents : List ℕ
   pub widths : List ℕ
+  pub rates : List ℕ
   pub ends : List ℕ
   pub hops : List ℕ
   pub routes : List ℕ
 
 -- the answer of `lightplan_read` with these buffers
 unfoldable pub requestOf : FileReading → Buffers → LightplanRequest
-requestOf read lent = requestEntry read (length (lent .idents)) (length (lent .widths))
+requestOf read lent = requestEntry read (demandRooms (lent .demands))
 
 -- the answer of `lightplan_read_routes` with these buffers
 unfoldable pub listsOf : FileReading → Buffers → LightplanRoutes
@@ -46,8 +46,9 @@ toldOf read lent =
     record {
       request = requestOf read lent;
       lists = listsOf read lent;
-      idents = take (requestOf read lent .demands) (identsRead read (lent .idents) (lent .widths));
-      widths = take (requestOf read lent .demands) (widthsRead read (lent .idents) (lent .widths));
+      idents = take (requestOf read lent .demands) (demandsRead read (lent .demands) .idents);
+      widths = take (requestOf read lent .demands) (demandsRead read (lent .demands) .widths);
+      rates = take (requestOf read lent .demands) (demandsRead read (lent .demands) .rates);
       ends = take (2 * listsOf read lent .links) (endsRead read (lent .ends) (lent .hops) (lent .routes));
       hops = take (listsOf read lent .demands) (hopsRead read (lent .ends) (lent .hops) (lent .routes));
       routes = take (listsOf read lent .hops) (routesRead read (lent .ends) (lent .hops) (lent .routes));
@@ -61,6 +62,7 @@ wholeTold v =
       lists = routesTold (Wrote (length (routeLinks (v .demands)))) v;
       idents = idents (v .demands);
       widths = widths (v .demands);
+      rates = rates (v .demands);
       ends = linkEnds (v .links);
       hops = hopCounts (v .demands);
       routes = routeLinks (v .demands);

@@ -25,16 +25,16 @@ use Rattle.plan.specs.declared.CheckReply.{CheckReply}
 use Rattle.plan.specs.declared.CheckReply.the-variants as check-reply
 use Rattle.plan.specs.CheckStarts.{startsReply}
 use Rattle.planfile.specs.PlanReading as plan
-use Rattle.columns.specs.Columns.{demandReply, routeReply, identsAfter, widthsAfter, endsAfter, hopsAfter, routesAfter}
+use Rattle.columns.specs.Columns.{DemandBuffers, demandReply, routeReply, demandsAfter, endsAfter, hopsAfter, routesAfter}
 use Rattle.host.specs.declared.LightplanRequest.{LightplanRequest}
 use Rattle.host.specs.declared.LightplanRoutes.{LightplanRoutes}
 use Rattle.host.specs.declared.LightplanAnswer.{LightplanAnswer}
 use Rattle.host.specs.declared.LightplanVerdict.{LightplanVerdict}
 use Rattle.host.specs.declared.LightplanFrequency.{LightplanFrequency}
 
--- the version of the calls: 1 had five calls and outcomes from 0 on, 2 a search without blockers
+-- the version of the calls: 1 had five calls and outcomes from 0 on, 2 a search without blockers, 3 demands without rates
 unfoldable pub version : ℕ
-version = 3
+version = 4
 
 -- ---- a request file read
 
@@ -59,27 +59,22 @@ requestTold (bound-reply.Bound need) v =
     }
 requestTold (bound-reply.Refused why) v = requestRefused why
 
--- after the columns of idents and widths: the request, or why they were not written
+-- after the columns of the demands: the request, or why they were not written
 unfoldable pub requestAfter : Written → View → LightplanRequest
 unfolding requestRefused requestTold
 requestAfter (Wrote count) v = requestTold (boundReply v) v
 requestAfter (Unwritten why) v = requestRefused why
 
--- the answer for a file and buffers of these lengths: the reader's refusal, 10, or the request
-unfoldable pub requestEntry : FileReading → ℕ → ℕ → LightplanRequest
+-- the answer for a file and buffers of these rooms: the reader's refusal, 10, or the request
+unfoldable pub requestEntry : FileReading → List ℕ → LightplanRequest
 unfolding requestRefused requestAfter
-requestEntry (refused why) identsRoom widthsRoom = requestRefused why
-requestEntry (accepted v) identsRoom widthsRoom = requestAfter (demandReply v identsRoom widthsRoom) v
+requestEntry (refused why) rooms = requestRefused why
+requestEntry (accepted v) rooms = requestAfter (demandReply v rooms) v
 
--- the buffer of idents afterwards: as the columns leave it, as it was where the file is refused
-unfoldable pub identsRead : FileReading → List ℕ → List ℕ → List ℕ
-identsRead (refused why) idents widths = idents
-identsRead (accepted v) idents widths = identsAfter v idents widths
-
--- the buffer of widths afterwards, alike
-unfoldable pub widthsRead : FileReading → List ℕ → List ℕ → List ℕ
-widthsRead (refused why) idents widths = widths
-widthsRead (accepted v) idents widths = widthsAfter v idents widths
+-- the buffers for the demands afterwards: as the columns leave them, as they were where the file is refused
+unfoldable pub demandsRead : FileReading → DemandBuffers → DemandBuffers
+demandsRead (refused why) lent = lent
+demandsRead (accepted v) lent = demandsAfter v lent
 
 -- ---- the links and the routes of a request file
 

@@ -1,5 +1,6 @@
 -- Reading in C tells all of a request: two files that are told alike are the same file.
 use Prim.Native.Nat.{ℕ, _*_, _<_}
+use mathlib.Core.Bool.{true}
 use mathlib.Core.List.{List}
 use mathlib.Core.Path.{_≡_, refl, sym, ap, ap₂, _∙_}
 use native.Mathlib.Omega.{arith}
@@ -12,7 +13,8 @@ use Rattle.grid.specs.declared.Band.{Band}
 use Rattle.request.specs.declared.Checked.the-variants as checked
 use Rattle.request.specs.declared.Written.{Written}
 use Rattle.request.specs.declared.Written.the-variants.{Wrote}
-use Rattle.request.specs.View.{DemandView, View, demandAt, idents}
+use Rattle.request.specs.View.{DemandView, View, demandAt, idents, widthOf}
+use Rattle.request.specs.Check.{knownAsked}
 use Rattle.request.specs.SoundLaws.{check-sound}
 use Rattle.reading.specs.Reading.{FileReading, refused, accepted, readFile}
 use Rattle.request.specs.CheckLaws.{by-check}
@@ -23,12 +25,12 @@ use Rattle.meeting.specs.declared.BoundReply.the-variants as bound-reply
 use Rattle.meeting.specs.Bound.{boundOf}
 use Rattle.meeting.specs.ReplyLaws.{bound-answered}
 use Rattle.lent.specs.Lent.{over, writeAnswer}
-use Rattle.columns.specs.Columns.{widths, hopCounts, routeLinks, linkEnds, checkDemandColumns, checkRouteColumns, demandReply, routeReply}
+use Rattle.columns.specs.Columns.{widths, rateAsked, rates, hopCounts, routeLinks, linkEnds, DemandBuffers, demandRooms, demandsOver, checkDemandColumns, checkRouteColumns, demandReply, routeReply}
 use Rattle.columns.specs.ColumnsLaws.{ends-length, demands-sound, demands-written, routes-written}
 use Rattle.columns.specs.WholeLaws.{columns-whole}
 use Rattle.host.specs.declared.LightplanRequest.{LightplanRequest}
 use Rattle.host.specs.declared.LightplanRoutes.{LightplanRoutes}
-use Rattle.host.specs.Host.{requestRefused, requestTold, requestAfter, requestEntry, identsRead, widthsRead, routesRefused, routesTold, routesEntry, endsRead, hopsRead, routesRead}
+use Rattle.host.specs.Host.{requestRefused, requestTold, requestAfter, requestEntry, demandsRead, routesRefused, routesTold, routesEntry, endsRead, hopsRead, routesRead}
 use Rattle.host.specs.FileTold.{Buffers, FileTold, requestOf, listsOf, toldOf, wholeTold}
 
 -- the front of a buffer is the column that was written there
@@ -37,13 +39,13 @@ unfolding over
 front column buffer n h = ap (λ (k : ℕ). take k (over column buffer)) (sym h) ∙ take-append-seam column _
 
 -- told of the same things is told alike
-same-told : (t t′ : FileTold) → t .request ≡ t′ .request → t .lists ≡ t′ .lists → t .idents ≡ t′ .idents → t .widths ≡ t′ .widths → t .ends ≡ t′ .ends →
-    t .hops ≡ t′ .hops → t .routes ≡ t′ .routes → t ≡ t′
-same-told t t′ q l i w e h r =
-    ap₂ (λ (x : LightplanRequest) (y : LightplanRoutes). record { request = x; lists = y; idents = t .idents; widths = t .widths; ends = t .ends; hops = t .hops; routes = t .routes }) q l
-    ∙ (ap₂ (λ (x y : List ℕ). record { request = t′ .request; lists = t′ .lists; idents = x; widths = y; ends = t .ends; hops = t .hops; routes = t .routes }) i w
-    ∙ (ap₂ (λ (x y : List ℕ). record { request = t′ .request; lists = t′ .lists; idents = t′ .idents; widths = t′ .widths; ends = x; hops = y; routes = t .routes }) e h
-    ∙ ap (λ (x : List ℕ). record { request = t′ .request; lists = t′ .lists; idents = t′ .idents; widths = t′ .widths; ends = t′ .ends; hops = t′ .hops; routes = x }) r))
+same-told : (t t′ : FileTold) → t .request ≡ t′ .request → t .lists ≡ t′ .lists → t .idents ≡ t′ .idents → t .widths ≡ t′ .widths → t .rates ≡ t′ .rates →
+    t .ends ≡ t′ .ends → t .hops ≡ t′ .hops → t .routes ≡ t′ .routes → t ≡ t′
+same-told t t′ q l i w a e h r =
+    ap₂ (λ (x : LightplanRequest) (y : LightplanRoutes). record { request = x; lists = y; idents = t .idents; widths = t .widths; rates = t .rates; ends = t .ends; hops = t .hops; routes = t .routes }) q l
+    ∙ (ap₂ (λ (x y : List ℕ). record { request = t′ .request; lists = t′ .lists; idents = x; widths = y; rates = t .rates; ends = t .ends; hops = t .hops; routes = t .routes }) i w
+    ∙ (ap₂ (λ (x y : List ℕ). record { request = t′ .request; lists = t′ .lists; idents = t′ .idents; widths = t′ .widths; rates = x; ends = y; hops = t .hops; routes = t .routes }) a e
+    ∙ ap₂ (λ (x y : List ℕ). record { request = t′ .request; lists = t′ .lists; idents = t′ .idents; widths = t′ .widths; rates = t′ .rates; ends = t′ .ends; hops = x; routes = y }) h r))
 
 -- how a file reads, case by case
 by-reading : {C : Type 0} (read : FileReading) → ((v : View) → read ≡ accepted v → C) → ((why : Refusal) → read ≡ refused why → C) → C
@@ -51,12 +53,12 @@ by-reading (accepted v) if-accepted if-refused = if-accepted v refl
 by-reading (refused why) if-accepted if-refused = if-refused why refl
 
 -- an answer of `lightplan_read` passed its tests
-passed-demands : (v : View) (a b : ℕ) → requestAfter (demandReply v a b) v .refusal ≡ 0 → checkDemandColumns v a b ≡ checked.Sound
+passed-demands : (v : View) (rooms : List ℕ) → requestAfter (demandReply v rooms) v .refusal ≡ 0 → checkDemandColumns v rooms ≡ checked.Sound
 unfolding requestAfter demandReply writeAnswer requestRefused
-passed-demands v a b h =
-    by-check (checkDemandColumns v a b)
-    (λ (passed : checkDemandColumns v a b ≡ checked.Sound). passed)
-    (λ (why : Refusal) (failed : checkDemandColumns v a b ≡ checked.Refused why).
+passed-demands v rooms h =
+    by-check (checkDemandColumns v rooms)
+    (λ (passed : checkDemandColumns v rooms ≡ checked.Sound). passed)
+    (λ (why : Refusal) (failed : checkDemandColumns v rooms ≡ checked.Refused why).
     let number : numberOf why ≡ 0 = rw failed at h in absurd (omega (arith, number, some-number why)))
 
 -- and so did one of `lightplan_read_routes`
@@ -71,21 +73,23 @@ passed-routes v a b c h =
 -- where both calls answer, all of the request is told
 module _ (v : View) (lent : Buffers) (links : length (v .links) ≡ v .linkCount) (demands : length (v .demands) ≡ v .demandCount) where
   accepted-told : requestOf (accepted v) lent .refusal ≡ 0 → listsOf (accepted v) lent .refusal ≡ 0 → toldOf (accepted v) lent ≡ wholeTold v
-  unfolding toldOf wholeTold requestOf listsOf requestEntry requestAfter requestTold routesEntry routesTold identsRead widthsRead endsRead hopsRead routesRead idents widths hopCounts
+  unfolding toldOf wholeTold requestOf listsOf requestEntry requestAfter requestTold routesEntry routesTold demandsRead demandsOver endsRead hopsRead routesRead idents widths rates hopCounts
   accepted-told answered listed =
-      let passed = passed-demands v (length (lent .idents)) (length (lent .widths)) answered in
+      let passed = passed-demands v (demandRooms (lent .demands)) answered in
       let passed′ = passed-routes v (length (lent .ends)) (length (lent .hops)) (length (lent .routes)) listed in
-      let told = demands-written v (lent .idents) (lent .widths) passed in
+      let told = demands-written v (lent .demands) passed in
       let told′ = routes-written v (lent .ends) (lent .hops) (lent .routes) passed′ in
-      let sound = demands-sound v (length (lent .idents)) (length (lent .widths)) passed in
+      let sound = demands-sound v (demandRooms (lent .demands)) passed in
       let request : requestOf (accepted v) lent ≡ requestTold (bound-reply.Bound (boundOf v)) v
       = ap (λ (a : Written). requestAfter a v) (sym (told .0)) ∙ ap (λ (b : BoundReply). requestTold b v) (sym (bound-answered v (boundOf v) sound refl)) in
       let lists : listsOf (accepted v) lent ≡ routesTold (Wrote (length (routeLinks (v .demands)))) v = ap (λ (a : Written). routesTold a v) (sym (told′ .0)) in
       same-told (toldOf (accepted v) lent) (wholeTold v) request lists
-      (ap₂ (λ (r : LightplanRequest) (l : List ℕ). take (r .demands) l) request (sym (told .1 .0))
-      ∙ front (idents (v .demands)) (lent .idents) (v .demandCount) (length-map (v .demands) (λ (d : DemandView). d .ident) ∙ demands))
-      (ap₂ (λ (r : LightplanRequest) (l : List ℕ). take (r .demands) l) request (sym (told .1 .1))
-      ∙ front (widths (v .demands)) (lent .widths) (v .demandCount) (length-map (v .demands) (λ (d : DemandView). d .width) ∙ demands))
+      (ap₂ (λ (r : LightplanRequest) (b : DemandBuffers). take (r .demands) (b .idents)) request (sym (told .1))
+      ∙ front (idents (v .demands)) (lent .demands .idents) (v .demandCount) (length-map (v .demands) (λ (d : DemandView). d .ident) ∙ demands))
+      (ap₂ (λ (r : LightplanRequest) (b : DemandBuffers). take (r .demands) (b .widths)) request (sym (told .1))
+      ∙ front (widths (v .demands)) (lent .demands .widths) (v .demandCount) (length-map (v .demands) (λ (d : DemandView). widthOf d) ∙ demands))
+      (ap₂ (λ (r : LightplanRequest) (b : DemandBuffers). take (r .demands) (b .rates)) request (sym (told .1))
+      ∙ front (rates (v .demands)) (lent .demands .rates) (v .demandCount) (length-map (v .demands) (λ (d : DemandView). rateAsked (d .asked)) ∙ demands))
       (ap₂ (λ (r : LightplanRoutes) (l : List ℕ). take (2 * r .links) l) lists (sym (told′ .1 .0))
       ∙ front (linkEnds (v .links)) (lent .ends) (2 * v .linkCount) (ends-length (v .links) ∙ ap (λ (n : ℕ). 2 * n) links))
       (ap₂ (λ (r : LightplanRoutes) (l : List ℕ). take (r .demands) l) lists (sym (told′ .1 .1 .0))
@@ -107,6 +111,14 @@ module _ (file : List ℕ) (v : View) (bytes : Bytes file) (read : readFile file
       let there = parts .counted .demands-counted (sound .at-most-200-demands) in
       parts .counted .routes-counted k h (sound .demands-sound k (omega (arith, h, there)) .at-most-32-hops)
 
+  -- and each of its demands asks for a width, or for a rate in the table
+  all-known : (k : ℕ) → k < length (v .demands) → knownAsked (demandAt (v .demands) k .asked) ≡ true
+  all-known k h =
+      let parts = accepted-encodes file v bytes read in
+      let sound = check-sound v (parts .counted) (parts .sound) in
+      let there = parts .counted .demands-counted (sound .at-most-200-demands) in
+      sound .demands-sound k (omega (arith, h, there)) .asked-known
+
   -- where both calls answer, they tell all of it
   pub read-told : (lent : Buffers) → requestOf (readFile file) lent .refusal ≡ 0 → listsOf (readFile file) lent .refusal ≡ 0 → toldOf (readFile file) lent ≡ wholeTold v
   read-told lent answered listed =
@@ -120,12 +132,14 @@ module _ (file : List ℕ) (v : View) (bytes : Bytes file) (read : readFile file
 pub requests-told-whole : (v v′ : View) →
     ((k : ℕ) → k < length (v .demands) → length (demandAt (v .demands) k .route) ≡ demandAt (v .demands) k .hops) →
     ((k : ℕ) → k < length (v′ .demands) → length (demandAt (v′ .demands) k .route) ≡ demandAt (v′ .demands) k .hops) →
+    ((k : ℕ) → k < length (v .demands) → knownAsked (demandAt (v .demands) k .asked) ≡ true) →
+    ((k : ℕ) → k < length (v′ .demands) → knownAsked (demandAt (v′ .demands) k .asked) ≡ true) →
     wholeTold v ≡ wholeTold v′ → v ≡ v′
 unfolding wholeTold requestTold
-requests-told-whole v v′ long long′ same =
+requests-told-whole v v′ long long′ known known′ same =
     let band : v .band ≡ v′ .band = ap (λ (t : FileTold). bandOf (t .request)) same in
-    columns-whole v v′ long long′ band (ap (λ (t : FileTold). t .request .links) same) (ap (λ (t : FileTold). t .request .demands) same)
-    (ap (λ (t : FileTold). t .idents) same) (ap (λ (t : FileTold). t .widths) same) (ap (λ (t : FileTold). t .ends) same) (ap (λ (t : FileTold). t .hops) same)
+    columns-whole v v′ long long′ known known′ band (ap (λ (t : FileTold). t .request .links) same) (ap (λ (t : FileTold). t .request .demands) same)
+    (ap (λ (t : FileTold). t .idents) same) (ap (λ (t : FileTold). t .widths) same) (ap (λ (t : FileTold). t .rates) same) (ap (λ (t : FileTold). t .ends) same) (ap (λ (t : FileTold). t .hops) same)
     (ap (λ (t : FileTold). t .routes) same)
 
 -- a file that is refused is answered by neither call
@@ -146,7 +160,7 @@ files-told-whole file file′ lent lent′ bytes bytes′ answered listed same =
     by-reading (readFile file′)
     (λ (v′ : View) (read′ : readFile file′ ≡ accepted v′).
     let views : v ≡ v′
-    = requests-told-whole v v′ (as-long file v bytes read) (as-long file′ v′ bytes′ read′)
+    = requests-told-whole v v′ (as-long file v bytes read) (as-long file′ v′ bytes′ read′) (all-known file v bytes read) (all-known file′ v′ bytes′ read′)
     (sym (read-told file v bytes read lent answered listed) ∙ (same ∙ read-told file′ v′ bytes′ read′ lent′ answered′ listed′)) in
     one-encoding file file′ v bytes bytes′ read (read′ ∙ ap accepted (sym views)))
     (λ (why : Refusal) (is : readFile file′ ≡ refused why). no-answer (readFile file′) lent′ why is answered′))

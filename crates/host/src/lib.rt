@@ -1,5 +1,5 @@
 // The library's calls for programs in C: files and plans as bytes, answers as structs of numbers. An answer has the refusal 0 and
-// the place 0. A refusal has its number, 1 to 20, and its place; every other field is then 0, but for what was refused, and every
+// the place 0. A refusal has its number, 1 to 21, and its place; every other field is then 0, but for what was refused, and every
 // lent buffer as it was.
 ghost use mathlib.Core.Path.{_≡_};
 ghost use Rattle.host.specs.Host.{version};
@@ -75,7 +75,7 @@ pub struct LightplanFrequency {
 }
 
 // Which calls these are and how their answers are laid out.
-const VERSION: u32 = 3;
+const VERSION: u32 = 4;
 
 // The version, which a header must have too to fit this library.
 #[no_mangle]

@@ -15,19 +15,22 @@ ghost use lib.ListN.{length};
 ghost use Rattle.request.specs.View.{view};
 ghost use Rattle.reading.specs.Reading.{readFile};
 ghost use Rattle.meeting.specs.Reply.{boundReply};
-ghost use Rattle.host.specs.Host.{requestRefused, requestTold, requestEntry, identsRead, widthsRead, routesRefused, routesEntry, endsRead, hopsRead, routesRead};
+ghost use Rattle.columns.specs.Columns.{lentDemands, demandRooms};
+ghost use Rattle.host.specs.Host.{requestRefused, requestTold, requestEntry, demandsRead, routesRefused, routesEntry, endsRead, hopsRead, routesRead};
 
-// Reads a request file. `idents` and `widths` get the ident and the width of each demand by listing position. The reader's refusals at
-// their offsets come first, then 10 for each buffer.
+// Reads a request file. `idents`, `widths` and `rates` get the ident, the width and the rate of each demand by listing position, a rate of
+// 0 where it asks for a width. The reader's refusals at their offsets come first, then 10 for each buffer.
 #[no_mangle]
 pub extern "C" fn lightplan_read(
     file: &[u8],
     idents: &mut [u16],
     widths: &mut [u16],
+    rates: &mut [u16],
 ) -> LightplanRequest
-    ensures answer { λ r. ⌜ r ≡ requestEntry (readFile (now (file .entry))) (length (now (idents .entry))) (length (now (widths .entry))) ⌝ }
-    ensures idents { λ _. ⌜ now (idents .exit) ≡ identsRead (readFile (now (file .entry))) (now (idents .entry)) (now (widths .entry)) ⌝ }
-    ensures widths { λ _. ⌜ now (widths .exit) ≡ widthsRead (readFile (now (file .entry))) (now (idents .entry)) (now (widths .entry)) ⌝ }
+    ensures answer { λ r. ⌜ r ≡ requestEntry (readFile (now (file .entry))) (demandRooms (lentDemands (now (idents .entry)) (now (widths .entry)) (now (rates .entry)))) ⌝ }
+    ensures idents { λ _. ⌜ now (idents .exit) ≡ demandsRead (readFile (now (file .entry))) (lentDemands (now (idents .entry)) (now (widths .entry)) (now (rates .entry))) .idents ⌝ }
+    ensures widths { λ _. ⌜ now (widths .exit) ≡ demandsRead (readFile (now (file .entry))) (lentDemands (now (idents .entry)) (now (widths .entry)) (now (rates .entry))) .widths ⌝ }
+    ensures rates { λ _. ⌜ now (rates .exit) ≡ demandsRead (readFile (now (file .entry))) (lentDemands (now (idents .entry)) (now (widths .entry)) (now (rates .entry))) .rates ⌝ }
 {
     let reading = read_request(file);
     let verdict = reading.verdict;
@@ -35,7 +38,7 @@ pub extern "C" fn lightplan_read(
     if let Checked::Refused(why) = verdict {
         return request_refused(why);
     }
-    let written = demand_columns(request, idents, widths);
+    let written = demand_columns(request, idents, widths, rates);
     if let Written::Refused(why) = written {
         return request_refused(why);
     }

@@ -2,14 +2,14 @@
 use Prim.Native.Nat.{ℕ, zero, suc, _+_, _-_, _*_, max}
 use mathlib.Core.Bool.{cond}
 use mathlib.Core.List.{List, [], _∷_}
-use Rattle.request.specs.View.{DemandView, View}
+use Rattle.request.specs.View.{DemandView, View, widthOf}
 use Rattle.request.specs.Check.{has}
 
 -- the sum of the widths of the demands on a link
 unfoldable pub widthOn : ℕ → List DemandView → ℕ
 unfolding has
 widthOn link [] = 0
-widthOn link (d ∷ demands) = cond (has link (d .route)) (d .width + widthOn link demands) (widthOn link demands)
+widthOn link (d ∷ demands) = cond (has link (d .route)) (widthOf d + widthOn link demands) (widthOn link demands)
 
 -- how many demands are on a link
 unfoldable pub demandsOn : ℕ → List DemandView → ℕ

@@ -16,7 +16,7 @@ use Rattle.theory.specs.EarlierLaws.{rising-no-repeats}
 use Rattle.theory.specs.Orders.{listing}
 use Rattle.theory.specs.ListingLaws.{listing-mem}
 use Rattle.theory.specs.TestLaws.{by-test}
-use Rattle.request.specs.View.{DemandView, View, demandAt, noDemand}
+use Rattle.request.specs.View.{DemandView, View, demandAt, noDemand, widthOf}
 use Rattle.request.specs.Check.{has}
 use Rattle.request.specs.Sound.{SoundRequest}
 use Rattle.request.specs.Sharing.{problemOf}
@@ -106,7 +106,7 @@ riders-widths v link front (d ∷ demands) e k n =
     let rest = riders-widths v link (front ++ (d ∷ [])) demands (one-on v front d demands e) (suc k) (grown front d k n) in
     by-test (has link (d .route))
     (λ t. rw t
-    (ap₂ _+_ (ap (λ (x : DemandView). x .width) (subst (λ (j : ℕ). demandAt (v .demands) j ≡ d) n (demand-here v front d demands e))) rest))
+    (ap₂ _+_ (ap (λ (x : DemandView). widthOf x) (subst (λ (j : ℕ). demandAt (v .demands) j ≡ d) n (demand-here v front d demands e))) rest))
     (λ f. rw f rest)
 
 module _ (v : View) (sound : SoundRequest v) (counted : length (v .demands) ≡ v .demandCount) (S : ℕ) (plan : ℕ → ℕ)

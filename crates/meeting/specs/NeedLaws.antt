@@ -8,7 +8,7 @@ use native.Mathlib.Numerals.{add-one}
 use lib.ListN.{length, getD, drop, drop-of-length-le}
 use lib.Seq.{drop-cons}
 use Rattle.request.specs.declared.Request.{Request}
-use Rattle.request.specs.View.{View, viewDemand, view, noDemand, demandAt, noEntry}
+use Rattle.request.specs.View.{View, viewDemand, view, noDemand, demandAt, noEntry, widthOf}
 use Rattle.request.specs.Check.{has}
 use Rattle.meeting.specs.Bound.{widthOn, demandsOn, linkBound, boundOver}
 use Rattle.meeting.specs.AskedLaws.{demand-at}
@@ -22,12 +22,12 @@ module _ (q : Request) (link j widths users : ℕ) (h : j < length (view q .dema
     (so-far : NeedTo (view q) link j widths users) where
   -- a demand on the link counts
   pub need-on : (more with-it : ℕ) → has link (viewDemand (getD (q .demands) j noEntry) .route) ≡ true →
-      getD (q .demands) j noEntry .width < 65536 → more ≡ widths + getD (q .demands) j noEntry .width → with-it ≡ users + 1 →
+      widthOf (viewDemand (getD (q .demands) j noEntry)) < 65536 → more ≡ widths + widthOf (viewDemand (getD (q .demands) j noEntry)) → with-it ≡ users + 1 →
       NeedTo (view q) link (j + 1) more with-it
   unfolding widthOn demandsOn demandAt viewDemand
   need-on more with-it on low e u =
       let here : demandAt (view q .demands) j ≡ viewDemand (getD (q .demands) j noEntry) = demand-at q j h in
-      let width-here : widthOn link (drop j (view q .demands)) ≡ getD (q .demands) j noEntry .width + widthOn link (drop (j + 1) (view q .demands))
+      let width-here : widthOn link (drop j (view q .demands)) ≡ widthOf (viewDemand (getD (q .demands) j noEntry)) + widthOn link (drop (j + 1) (view q .demands))
       = rw (add-one, drop-cons (view q .demands) j noDemand h, here, on) in
       let user-here : demandsOn link (drop j (view q .demands)) ≡ 1 + demandsOn link (drop (j + 1) (view q .demands))
       = rw (add-one, drop-cons (view q .demands) j noDemand h, here, on) in

@@ -7,7 +7,7 @@ use mathlib.Core.Path.{_≡_}
 use lib.ListN.{getD}
 use Rattle.theory.specs.Problem.{Row, startIn}
 use Rattle.theory.specs.Orders.{listing}
-use Rattle.request.specs.View.{DemandView, View, demandAt}
+use Rattle.request.specs.View.{DemandView, View, demandAt, widthOf}
 use Rattle.request.specs.Check.{has}
 
 -- the start that a list of starts gives the demand at a listing position
@@ -18,7 +18,7 @@ startAt starts i = getD starts i 0
 pub record Holds (v : View) (starts : List ℕ) (i link slot : ℕ) : Type 0 where
   pub on-route : has link (demandAt (v .demands) i .route) ≡ true
   pub from-start : startAt starts i ≤ slot
-  pub below-end : slot < startAt starts i + demandAt (v .demands) i .width
+  pub below-end : slot < startAt starts i + widthOf (demandAt (v .demands) i)
 
 -- two slots of one link are parted by the guard: one is more than G below the other, so they are never the same slot
 abbrev pub Parted : ℕ → ℕ → ℕ → Type 0
@@ -34,7 +34,7 @@ pub record AllowedPlan (v : View) (starts : List ℕ) : Type 0 where
 unfoldable pub endFrom : List ℕ → ℕ → List DemandView → ℕ
 unfolding startAt
 endFrom starts k [] = 0
-endFrom starts k (d ∷ demands) = max (startAt starts k + d .width) (endFrom starts (k + 1) demands)
+endFrom starts k (d ∷ demands) = max (startAt starts k + widthOf d) (endFrom starts (k + 1) demands)
 
 -- the plan's end: the highest of its ends, or 0 without demands
 unfoldable pub endOfPlan : View → List ℕ → ℕ

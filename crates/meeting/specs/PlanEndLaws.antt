@@ -7,7 +7,7 @@ use lib.ListN.{length, length-append}
 use lib.Seq.{getD-append-seam}
 use Rattle.theory.specs.Problem.{endOf, top, planEnd}
 use Rattle.theory.specs.Orders.{countUp, listing}
-use Rattle.request.specs.View.{DemandView, View, demandAt, noDemand}
+use Rattle.request.specs.View.{DemandView, View, demandAt, noDemand, widthOf}
 use Rattle.request.specs.Sharing.{problemOf}
 use Rattle.meeting.specs.Plan.{startAt, endFrom, endOfPlan}
 
@@ -23,7 +23,7 @@ unfolding endFrom countUp planEnd problemOf endOf top
 end-from v starts front [] e = refl
 end-from v starts front (d ∷ demands) e =
     ap₂ max
-    (ap (λ (x : DemandView). startAt starts (length front) + x .width) (sym (ap (λ (ds : List DemandView). demandAt ds (length front)) e ∙ demand-here front d demands)))
+    (ap (λ (x : DemandView). startAt starts (length front) + widthOf x) (sym (ap (λ (ds : List DemandView). demandAt ds (length front)) e ∙ demand-here front d demands)))
     (subst (λ (k : ℕ). endFrom starts (length front + 1) demands ≡ planEnd (problemOf v) [] (countUp (length demands) k) (startAt starts)) grown
     (subst (λ (k : ℕ). endFrom starts k demands ≡ planEnd (problemOf v) [] (countUp (length demands) (length (front ++ (d ∷ [])))) (startAt starts))
     (length-append front (d ∷ []))

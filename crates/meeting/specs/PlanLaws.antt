@@ -14,7 +14,7 @@ use Rattle.theory.specs.ApartLaws.{unjoined-apart, before-apart, after-apart, a
 use Rattle.theory.specs.TestLaws.{by-test}
 use Rattle.theory.specs.Orders.{listing}
 use Rattle.theory.specs.ListingLaws.{listing-below, listing-mem}
-use Rattle.request.specs.View.{View, demandAt}
+use Rattle.request.specs.View.{View, demandAt, widthOf}
 use Rattle.request.specs.Check.{has}
 use Rattle.request.specs.Sound.{SoundRequest}
 use Rattle.request.specs.Sharing.{shareLink, problemOf}
@@ -83,7 +83,7 @@ module _ (v : View) (starts : List ℕ) (sound : SoundRequest v)
       }
     where
       width : ℕ → ℕ
-      width i = demandAt (v .demands) i .width
+      width i = widthOf (demandAt (v .demands) i)
 
       route : ℕ → List ℕ
       route i = demandAt (v .demands) i .route
@@ -142,7 +142,7 @@ module _ (v : View) (starts : List ℕ) where
             let ends = plan .within i (listing-mem (v .demandCount) i h) in
             omega (arith, holds .below-end);
         parted = λ i j link x y hi hj different a b.
-            blocks-parted (v .band .guard) (startAt starts i) (demandAt (v .demands) i .width) (startAt starts j) (demandAt (v .demands) j .width) x y
+            blocks-parted (v .band .guard) (startAt starts i) (widthOf (demandAt (v .demands) i)) (startAt starts j) (widthOf (demandAt (v .demands) j)) x y
             (apart-cases (problemOf v) i (startAt starts i) j (startAt starts j)
             (plan .clear-of-others i j (listing-mem (v .demandCount) i hi) (listing-mem (v .demandCount) j hj) different)
             (sharing link (demandAt (v .demands) i .route) (demandAt (v .demands) j .route) (a .on-route) (b .on-route)))

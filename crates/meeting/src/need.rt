@@ -2,6 +2,7 @@
 use crate::route::on_link;
 use crate::row::demands_asked;
 use request::Request;
+use request::width_of;
 ghost use mathlib.Core.Path.{_≡_};
 ghost use Prim.Native.Nat.{_-_, max};
 ghost use Rattle.request.specs.View.{view};
@@ -32,8 +33,9 @@ fn link_need(request: Request, link: usize) -> u32
     let mut j: usize = 0;
     while j < count {
         let demand = request.demands[j];
+        let width = width_of(demand);
         if on_link(demand, link) {
-            widths += demand.width as u32;
+            widths += width as u32;
             users += 1;
         }
         j += 1;

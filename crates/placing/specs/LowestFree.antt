@@ -5,15 +5,15 @@ use mathlib.Core.Bool.{true}
 use mathlib.Core.List.{List, _∷_, _++_, List·Memᴰ}
 use mathlib.Core.Path.{_≡_}
 use lib.ListN.{length, getD}
-use Rattle.request.specs.View.{View, demandAt}
+use Rattle.request.specs.View.{View, demandAt, widthOf}
 use Rattle.request.specs.Sharing.{shareLink}
 use Rattle.meeting.specs.Plan.{startAt, AllowedPlan, endOfPlan}
 
 -- demand i at s and demand j at t clash: they share a link, and neither ends, the guard included, before the other starts
 pub record Clashing (v : View) (i s j t : ℕ) : Type 0 where
   pub share : shareLink (demandAt (v .demands) i .route) (demandAt (v .demands) j .route) ≡ true
-  pub not-before : t < s + demandAt (v .demands) i .width + v .band .guard
-  pub not-after : s < t + demandAt (v .demands) j .width + v .band .guard
+  pub not-before : t < s + widthOf (demandAt (v .demands) i) + v .band .guard
+  pub not-after : s < t + widthOf (demandAt (v .demands) j) + v .band .guard
 
 -- demand i at s clashes with one of the demands placed before
 pub record ClashesWith (v : View) (plan : ℕ → ℕ) (before : List ℕ) (i s : ℕ) : Type 0 where
@@ -24,7 +24,7 @@ pub record ClashesWith (v : View) (plan : ℕ → ℕ) (before : List ℕ) (i s 
 -- the plan's start for demand i is the lowest free one: it ends inside the band, it clashes with none of the demands placed before,
 -- and any lower start clashes with one of them
 pub record LowestFree (v : View) (plan : ℕ → ℕ) (before : List ℕ) (i : ℕ) : Type 0 where
-  pub inside : plan i + demandAt (v .demands) i .width ≤ v .band .slots
+  pub inside : plan i + widthOf (demandAt (v .demands) i) ≤ v .band .slots
   pub free : ClashesWith v plan before i (plan i) → ⊥
   pub none-lower : (s : ℕ) → s < plan i → ClashesWith v plan before i s
 
@@ -44,7 +44,7 @@ pub record InTheWay (v : View) (plan : ℕ → ℕ) (before : List ℕ) (i s b :
 pub record BlockerNamed (v : View) (plan : ℕ → ℕ) (before : List ℕ) (i entry : ℕ) : Type 0 where
   pub none-at-0 : plan i ≡ 0 → entry ≡ 65535
   pub in-the-way : (s : ℕ) → plan i ≡ suc s → InTheWay v plan before i s entry
-  pub ends-below : 0 < plan i → plan entry + demandAt (v .demands) entry .width + v .band .guard ≡ plan i
+  pub ends-below : 0 < plan i → plan entry + widthOf (demandAt (v .demands) entry) + v .band .guard ≡ plan i
 
 -- each demand of an order is told its blocker among those before it
 unfoldable pub EachBlocked : View → (ℕ → ℕ) → (ℕ → ℕ) → List ℕ → Type 0
@@ -75,5 +75,5 @@ pub record NoStartFree (v : View) (order : List ℕ) (i blocker : ℕ) : Type 0 
   pub stands : order ≡ before ++ (i ∷ after)
   pub plan : ℕ → ℕ
   pub each-lowest : EachLowest v plan before
-  pub none-free : (s : ℕ) → s + demandAt (v .demands) i .width ≤ v .band .slots → ClashesWith v plan before i s
-  pub in-the-way : InTheWay v plan before i (v .band .slots - demandAt (v .demands) i .width) blocker
+  pub none-free : (s : ℕ) → s + widthOf (demandAt (v .demands) i) ≤ v .band .slots → ClashesWith v plan before i s
+  pub in-the-way : InTheWay v plan before i (v .band .slots - widthOf (demandAt (v .demands) i)) blocker

@@ -23,7 +23,7 @@ use Rattle.board.specs.declared.Spot.the-variants.{At, Nowhere}
 use Rattle.board.specs.Board.{entryOf, placedBeside}
 use Rattle.board.specs.BoardLaws.{spot-found, spot-none}
 use Rattle.request.specs.declared.Request.{Request}
-use Rattle.request.specs.View.{View, view, viewDemand}
+use Rattle.request.specs.View.{View, view, viewDemand, widthOf}
 use Rattle.placing.specs.declared.PlacedReply.the-variants as placed-reply
 use Rattle.request.specs.Sharing.{problemOf}
 use Rattle.meeting.specs.AskedLaws.{demand-at}
@@ -39,7 +39,7 @@ sized q i asked =
     record {
       listed = listed;
       position = omega (arith, asked .position, asked .sound .at-most-200-demands);
-      width-is = sym (ap (λ (d : Rattle.request.specs.View.DemandView). d .width) (demand-at q i listed));
+      width-is = sym (ap (λ (d : Rattle.request.specs.View.DemandView). widthOf d) (demand-at q i listed));
       width-inside = asked .sound .demands-sound i (asked .position) .width-in-band;
       slots-fit = asked .limits .most-slots;
     }

@@ -5,7 +5,7 @@ use mathlib.Core.Path.{_≡_}
 use Rattle.theory.specs.Arrange.{Arrange}
 use Rattle.theory.specs.ByStart.{ByStart}
 use Rattle.theory.specs.Orders.{listing}
-use Rattle.request.specs.View.{View, demandAt}
+use Rattle.request.specs.View.{View, demandAt, widthOf}
 use Rattle.placing.specs.FirstFit.{firstFitReply, firstFitStarts, placedTold}
 use Rattle.meeting.specs.Plan.{startAt, endOfPlan}
 
@@ -17,7 +17,7 @@ pub record OrderByStart (v : View) (plan order : List ℕ) : Type 0 where
 -- the end of demand i in a plan
 unfoldable pub endIn : View → List ℕ → ℕ → ℕ
 unfolding startAt
-endIn v plan i = startAt plan i + demandAt (v .demands) i .width
+endIn v plan i = startAt plan i + widthOf (demandAt (v .demands) i)
 
 -- first fit in an order, with buffers of these rooms, does as well as a plan: it places all demands, each as low as the plan does or lower, and so the whole
 pub record AsLowAs (v : View) (plan order rooms starts : List ℕ) : Type 0 where

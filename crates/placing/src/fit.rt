@@ -6,6 +6,7 @@ use board::place_one;
 use meeting::meeting_row;
 use refusal::Refusal;
 use request::Request;
+use request::width_of;
 ghost use mathlib.Core.Path.{_≡_};
 ghost use Prim.Native.Nat.{max};
 ghost use Rattle.board.specs.Board.{placedOne};
@@ -30,13 +31,14 @@ fn place_beside(request: Request, starts: &[u16; 200], ends: &[u16; 200], i: usi
 {
     let count = request.demand_count;
     let demand = request.demands[i];
+    let width = width_of(demand);
     let row = meeting_row(request.demands, count, i);
     place_one(
         &row,
         starts,
         ends,
         count,
-        demand.width,
+        width,
         request.band.guard as u16,
         request.band.slots,
     )
@@ -67,7 +69,7 @@ pub(crate) fn place_all(
             return PlacedReply::Blocked(Refusal::NoStart(i), blocker);
         };
         let demand = request.demands[i];
-        let width = demand.width;
+        let width = width_of(demand);
         at[i] = start;
         by[i] = blocker;
         ends[i] = start + width;

@@ -10,7 +10,7 @@ use Rattle.refusal.specs.Told.{Told, refusalTold}
 use Rattle.theory.specs.Problem.{Problem, Row, fits}
 use Rattle.request.specs.declared.Checked.{Checked}
 use Rattle.request.specs.declared.Checked.the-variants.{Sound, Refused}
-use Rattle.request.specs.View.{DemandView, View}
+use Rattle.request.specs.View.{DemandView, View, widthOf}
 use Rattle.request.specs.Check.{check, then, must}
 use Rattle.request.specs.Sharing.{problemOf}
 use Rattle.meeting.specs.Plan.{startAt, endOfPlan}
@@ -24,7 +24,7 @@ checkCount K starts = cond (ltb (length starts) K) (Refused (NoRow (length start
 -- 17 at listing position k: the end is above S
 unfoldable pub checkEnd : ℕ → List ℕ → ℕ → DemandView → Checked
 unfolding must startAt
-checkEnd S starts k d = must (endWithin S (startAt starts k) (d .width)) (EndAbove k)
+checkEnd S starts k d = must (endWithin S (startAt starts k) (widthOf d)) (EndAbove k)
 
 -- 17 at the first demand, as listed, that ends above S
 unfoldable pub checkEnds : ℕ → List ℕ → ℕ → List DemandView → Checked

@@ -19,7 +19,7 @@ use Rattle.theory.specs.Orders.{listing}
 use Rattle.theory.specs.ListingLaws.{listing-below, listing-mem}
 use Rattle.request.specs.declared.Checked.{Checked}
 use Rattle.request.specs.declared.Checked.the-variants.{Sound, Refused}
-use Rattle.request.specs.View.{DemandView, View, demandAt}
+use Rattle.request.specs.View.{DemandView, View, demandAt, widthOf}
 use Rattle.request.specs.Check.{then, must, check}
 use Rattle.request.specs.CheckLaws.{then-sound, then-refused, first-sound, next-sound, test-held}
 use Rattle.request.specs.Sharing.{problemOf}
@@ -42,35 +42,35 @@ passes-unless t why h = rw h
 
 -- 17 passes: each end is at most S
 pub ends-within : (S : ℕ) (starts : List ℕ) (k : ℕ) (demands : List DemandView) → checkEnds S starts k demands ≡ Sound →
-    (p : ℕ) → p < length demands → startAt starts (k + p) + demandAt demands p .width ≤ S
+    (p : ℕ) → p < length demands → startAt starts (k + p) + widthOf (demandAt demands p) ≤ S
 unfolding checkEnds checkEnd demandAt
 ends-within S starts k [] h p l = absurd (omega arith)
 ends-within S starts k (d ∷ demands) h zero l =
-    subst (λ (n : ℕ). startAt starts n + d .width ≤ S) (omega arith)
-    (leb-true (startAt starts k + d .width) S
-    (test-held (endWithin S (startAt starts k) (d .width)) (EndAbove k)
+    subst (λ (n : ℕ). startAt starts n + widthOf d ≤ S) (omega arith)
+    (leb-true (startAt starts k + widthOf d) S
+    (test-held (endWithin S (startAt starts k) (widthOf d)) (EndAbove k)
     (first-sound (checkEnd S starts k d) (checkEnds S starts (k + 1) demands) h)))
 ends-within S starts k (d ∷ demands) h (suc p) l =
-    subst (λ (n : ℕ). startAt starts n + demandAt demands p .width ≤ S) (omega arith)
+    subst (λ (n : ℕ). startAt starts n + widthOf (demandAt demands p) ≤ S) (omega arith)
     (ends-within S starts (k + 1) demands (next-sound (checkEnd S starts k d) (checkEnds S starts (k + 1) demands) h) p (omega arith))
 
 -- the same from the first position on
 pub each-within : (S : ℕ) (starts : List ℕ) (demands : List DemandView) → checkEnds S starts 0 demands ≡ Sound →
-    (p : ℕ) → p < length demands → startAt starts p + demandAt demands p .width ≤ S
+    (p : ℕ) → p < length demands → startAt starts p + widthOf (demandAt demands p) ≤ S
 each-within S starts demands h p l =
-    subst (λ (n : ℕ). startAt starts n + demandAt demands p .width ≤ S) (omega arith) (ends-within S starts 0 demands h p l)
+    subst (λ (n : ℕ). startAt starts n + widthOf (demandAt demands p) ≤ S) (omega arith) (ends-within S starts 0 demands h p l)
 
 -- each end is at most S: 17 passes
 pub within-ends : (S : ℕ) (starts : List ℕ) (k : ℕ) (demands : List DemandView) →
-    ((p : ℕ) → p < length demands → startAt starts (k + p) + demandAt demands p .width ≤ S) → checkEnds S starts k demands ≡ Sound
+    ((p : ℕ) → p < length demands → startAt starts (k + p) + widthOf (demandAt demands p) ≤ S) → checkEnds S starts k demands ≡ Sound
 unfolding checkEnds checkEnd must demandAt
 within-ends S starts k [] h = refl
 within-ends S starts k (d ∷ demands) h =
     both-sound (checkEnd S starts k d) (checkEnds S starts (k + 1) demands)
-    (passes-if (endWithin S (startAt starts k) (d .width)) (EndAbove k)
-    (le-leb (startAt starts k + d .width) S (subst (λ (n : ℕ). startAt starts n + d .width ≤ S) (omega arith) (h 0 (omega arith)))))
+    (passes-if (endWithin S (startAt starts k) (widthOf d)) (EndAbove k)
+    (le-leb (startAt starts k + widthOf d) S (subst (λ (n : ℕ). startAt starts n + widthOf d ≤ S) (omega arith) (h 0 (omega arith)))))
     (within-ends S starts (k + 1) demands
-    (λ p l. subst (λ (n : ℕ). startAt starts n + demandAt demands p .width ≤ S) (omega arith) (h (suc p) (omega arith))))
+    (λ p l. subst (λ (n : ℕ). startAt starts n + widthOf (demandAt demands p) ≤ S) (omega arith) (h (suc p) (omega arith))))
 
 -- 18 passes: each demand is clear of the rows, and apart from each later demand
 pub clashes-none : (P : Problem) (starts : List ℕ) (rows : List Row) (k : ℕ) (demands : List DemandView) →
@@ -209,7 +209,7 @@ module _ (v : View) (starts : List ℕ) (counted : length (v .demands) ≡ v .de
   allowed-places plan =
       both-sound (checkEnds (v .band .slots) starts 0 (v .demands)) (checkClashes (problemOf v) starts [] 0 (v .demands))
       (within-ends (v .band .slots) starts 0 (v .demands)
-      (λ p l. subst (λ (n : ℕ). startAt starts n + demandAt (v .demands) p .width ≤ v .band .slots) (omega arith)
+      (λ p l. subst (λ (n : ℕ). startAt starts n + widthOf (demandAt (v .demands) p) ≤ v .band .slots) (omega arith)
       (plan .within p (listing-mem (v .demandCount) p (omega arith)))))
       (none-clash (problemOf v) starts [] 0 (v .demands)
       (λ p l. fits-nil (problemOf v) (0 + p) (startAt starts (0 + p)))

@@ -14,7 +14,7 @@ use Rattle.theory.specs.Problem.{Problem, endOf, apart, fits}
 use Rattle.theory.specs.ApartLaws.{clash-facts, clash-from}
 use Rattle.theory.specs.TestLaws.{not-false-true, not-both, and-first, and-second, and-both}
 use Rattle.request.specs.declared.Checked.the-variants.{Sound, Refused}
-use Rattle.request.specs.View.{DemandView, View, demandAt, noDemand}
+use Rattle.request.specs.View.{DemandView, View, demandAt, noDemand, widthOf}
 use Rattle.request.specs.Check.{then, must}
 use Rattle.request.specs.CheckLaws.{then-sound, then-refused}
 use Rattle.request.specs.Sharing.{shareLink, problemOf}
@@ -30,20 +30,20 @@ module _ (S : ℕ) (starts : List ℕ) (demands : List DemandView) (k : ℕ) whe
   ends-turn h = rw (drop-cons demands k noDemand h, add-one k)
 
   -- an end within the band passes, and the next is looked at
-  pub end-passes : k < length demands → startAt starts k + demandAt demands k .width ≤ S →
+  pub end-passes : k < length demands → startAt starts k + widthOf (demandAt demands k) ≤ S →
       checkEnds S starts k (drop k demands) ≡ checkEnds S starts (k + 1) (drop (k + 1) demands)
   unfolding checkEnd must
   end-passes h within =
       ends-turn h ∙ then-sound (checkEnd S starts k (demandAt demands k)) (checkEnds S starts (k + 1) (drop (k + 1) demands))
-      (ap (λ (b : Bool). cond b Sound (Refused (EndAbove k))) (le-leb (startAt starts k + demandAt demands k .width) S within))
+      (ap (λ (b : Bool). cond b Sound (Refused (EndAbove k))) (le-leb (startAt starts k + widthOf (demandAt demands k)) S within))
 
   -- an end above it is refused with 17
-  pub end-refused : k < length demands → S < startAt starts k + demandAt demands k .width →
+  pub end-refused : k < length demands → S < startAt starts k + widthOf (demandAt demands k) →
       checkEnds S starts k (drop k demands) ≡ Refused (EndAbove k)
   unfolding checkEnd must
   end-refused h above =
       ends-turn h ∙ then-refused (checkEnd S starts k (demandAt demands k)) (checkEnds S starts (k + 1) (drop (k + 1) demands)) (EndAbove k)
-      (ap (λ (b : Bool). cond b Sound (Refused (EndAbove k))) (lt-leb (startAt starts k + demandAt demands k .width) S above))
+      (ap (λ (b : Bool). cond b Sound (Refused (EndAbove k))) (lt-leb (startAt starts k + widthOf (demandAt demands k)) S above))
 
   -- behind the last demand all ends have passed
   pub ends-done : length demands ≤ k → checkEnds S starts k (drop k demands) ≡ Sound
@@ -106,7 +106,7 @@ row-none P starts i s = refl
 module _ (starts : List ℕ) (demands : List DemandView) (k : ℕ) where
   -- the end from a position on: the larger of the demand's there and of those behind it
   pub end-turn : k < length demands →
-      endFrom starts k (drop k demands) ≡ max (startAt starts k + demandAt demands k .width) (endFrom starts (k + 1) (drop (k + 1) demands))
+      endFrom starts k (drop k demands) ≡ max (startAt starts k + widthOf (demandAt demands k)) (endFrom starts (k + 1) (drop (k + 1) demands))
   unfolding endFrom demandAt
   end-turn h = rw (drop-cons demands k noDemand h, add-one k)
 
@@ -118,14 +118,14 @@ module _ (starts : List ℕ) (demands : List DemandView) (k : ℕ) where
 module _ (v : View) (i s j t : ℕ) where
   -- two demands that stand too close and share a link clash
   pub close-clash :
-      tooClose (v .band .guard) s (demandAt (v .demands) i .width) t (demandAt (v .demands) j .width)
+      tooClose (v .band .guard) s (widthOf (demandAt (v .demands) i)) t (widthOf (demandAt (v .demands) j))
       && shareLink (demandAt (v .demands) i .route) (demandAt (v .demands) j .route) ≡ true →
       apart (problemOf v) i s j t ≡ false
   unfolding tooClose problemOf endOf
   close-clash h =
       let G = v .band .guard in
-      let end = s + demandAt (v .demands) i .width + G in
-      let other = t + demandAt (v .demands) j .width + G in
+      let end = s + widthOf (demandAt (v .demands) i) + G in
+      let other = t + widthOf (demandAt (v .demands) j) + G in
       let share = shareLink (demandAt (v .demands) i .route) (demandAt (v .demands) j .route) in
       let near = and-first (ltb t end && ltb s other) share h in
       clash-from (problemOf v) i s j t
@@ -135,14 +135,14 @@ module _ (v : View) (i s j t : ℕ) where
 
   -- two demands of which this is not so are apart
   pub not-close-apart :
-      tooClose (v .band .guard) s (demandAt (v .demands) i .width) t (demandAt (v .demands) j .width)
+      tooClose (v .band .guard) s (widthOf (demandAt (v .demands) i)) t (widthOf (demandAt (v .demands) j))
       && shareLink (demandAt (v .demands) i .route) (demandAt (v .demands) j .route) ≡ false →
       apart (problemOf v) i s j t ≡ true
   unfolding tooClose problemOf endOf
   not-close-apart h =
       let G = v .band .guard in
-      let end = s + demandAt (v .demands) i .width + G in
-      let other = t + demandAt (v .demands) j .width + G in
+      let end = s + widthOf (demandAt (v .demands) i) + G in
+      let other = t + widthOf (demandAt (v .demands) j) + G in
       let share = shareLink (demandAt (v .demands) i .route) (demandAt (v .demands) j .route) in
       not-false-true (apart (problemOf v) i s j t)
       (λ clash.

@@ -7,13 +7,14 @@ use request::Checked;
 use request::Demand;
 use request::Request;
 use request::check_request;
+use request::width_of;
 ghost use mathlib.Core.Path.{_≡_};
 ghost use mathlib.Core.Bool.{_&&_, not};
 ghost use mathlib.Core.List.{[]};
 ghost use Prim.Native.Nat.{_+_, _≤_, _<_};
 ghost use lib.ListN.{length};
 ghost use Rattle.theory.specs.Problem.{fits};
-ghost use Rattle.request.specs.View.{view, viewDemand};
+ghost use Rattle.request.specs.View.{view, viewDemand, widthOf};
 ghost use Rattle.request.specs.Sharing.{shareLink, problemOf};
 ghost use Rattle.meeting.specs.Plan.{startAt, endOfPlan};
 ghost use Rattle.plan.specs.inner.Rows.{rowsBefore, tooClose};
@@ -61,7 +62,8 @@ fn check_ends(request: Request, starts: &[u16]) -> Checked
     while k < count {
         let demand = request.demands[k];
         let start = starts[k];
-        if !end_within(slots, start as u64, demand.width) {
+        let width = width_of(demand);
+        if !end_within(slots, start as u64, width) {
             return Checked::Refused(Refusal::EndAbove(k));
         }
         k += 1;
@@ -108,9 +110,11 @@ fn clashes_before(request: Request, starts: &[u16], k: usize) -> bool
 
 // Whether two demands clash: they stand too close and share a link. The routes are looked at only where they stand too close.
 fn clash(earlier: Demand, first: u16, demand: Demand, second: u16, guard: u8) -> bool
-    ensures { λ r. ⌜ r ≡ (tooClose guard first (earlier .width) second (demand .width) && shareLink (viewDemand earlier .route) (viewDemand demand .route)) ⌝ }
+    ensures { λ r. ⌜ r ≡ (tooClose guard first (widthOf (viewDemand earlier)) second (widthOf (viewDemand demand)) && shareLink (viewDemand earlier .route) (viewDemand demand .route)) ⌝ }
 {
-    if too_close(first, earlier.width, second, demand.width, guard) {
+    let width = width_of(earlier);
+    let breadth = width_of(demand);
+    if too_close(first, width, second, breadth, guard) {
         share_link(earlier, demand)
     } else {
         false
@@ -140,7 +144,8 @@ fn plan_end(request: Request, starts: &[u16]) -> u16
     let mut k = 0;
     while k < count {
         let demand = request.demands[k];
-        let own = starts[k] + demand.width;
+        let width = width_of(demand);
+        let own = starts[k] + width;
         if end < own {
             end = own;
         }

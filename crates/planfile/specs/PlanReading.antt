@@ -11,7 +11,7 @@ use Rattle.theory.specs.Problem.{Row}
 use Rattle.theory.specs.Orders.{listing}
 use Rattle.request.specs.declared.Checked.{Checked}
 use Rattle.request.specs.declared.Checked.the-variants.{Sound, Refused}
-use Rattle.request.specs.View.{View, demandAt, idents}
+use Rattle.request.specs.View.{View, demandAt, idents, widthOf}
 use Rattle.request.specs.Check.{then, check, must}
 use Rattle.fields.specs.Field.{number16, fieldEnd, checkField}
 use Rattle.request.specs.Sharing.{problemOf}
@@ -42,7 +42,7 @@ unfolding then must given demandAt
 checkNewRow v at rows r =
     then (must (ltb (r .who) (length (v .demands))) (UnknownIdent at))
     (then (must (not (given rows (r .who))) (IdentSeen at))
-    (must (endWithin (v .band .slots) (r .at) (demandAt (v .demands) (r .who) .width)) (EndAbove at)))
+    (must (endWithin (v .band .slots) (r .at) (widthOf (demandAt (v .demands) (r .who)))) (EndAbove at)))
 
 -- the field at an offset after some rows: 1, 2, 3, then 14, 15, 17
 unfoldable pub checkRow : View → List ℕ → ℕ → List Row → Checked

@@ -14,7 +14,7 @@ use Rattle.refusal.specs.declared.Refusal.the-variants.{UnknownIdent, IdentSeen
 use Rattle.theory.specs.Problem.{Row}
 use Rattle.request.specs.declared.Checked.{Checked}
 use Rattle.request.specs.declared.Checked.the-variants.{Sound, Refused}
-use Rattle.request.specs.View.{View, demandAt}
+use Rattle.request.specs.View.{View, demandAt, widthOf}
 use Rattle.request.specs.Check.{then, check, must}
 use Rattle.request.specs.CheckLaws.{then-sound, then-refused}
 use Rattle.fields.specs.Field.{fieldEnd, checkField}
@@ -84,17 +84,17 @@ module _ (v : View) (at : ℕ) (rows : List Row) (r : Row) where
 
   -- 17: an end above the slot count
   pub row-above : r .who < length (v .demands) → given rows (r .who) ≡ false →
-      v .band .slots < r .at + demandAt (v .demands) (r .who) .width → checkNewRow v at rows r ≡ Refused (EndAbove at)
+      v .band .slots < r .at + widthOf (demandAt (v .demands) (r .who)) → checkNewRow v at rows r ≡ Refused (EndAbove at)
   unfolding checkNewRow then must
   row-above h new above =
-      rw (lt-ltb (r .who) (length (v .demands)) h, new, lt-leb (r .at + demandAt (v .demands) (r .who) .width) (v .band .slots) above)
+      rw (lt-ltb (r .who) (length (v .demands)) h, new, lt-leb (r .at + widthOf (demandAt (v .demands) (r .who))) (v .band .slots) above)
 
   -- a row with none of these faults is sound
   pub row-sound : r .who < length (v .demands) → given rows (r .who) ≡ false →
-      r .at + demandAt (v .demands) (r .who) .width ≤ v .band .slots → checkNewRow v at rows r ≡ Sound
+      r .at + widthOf (demandAt (v .demands) (r .who)) ≤ v .band .slots → checkNewRow v at rows r ≡ Sound
   unfolding checkNewRow then must
   row-sound h new within =
-      rw (lt-ltb (r .who) (length (v .demands)) h, new, le-leb (r .at + demandAt (v .demands) (r .who) .width) (v .band .slots) within)
+      rw (lt-ltb (r .who) (length (v .demands)) h, new, le-leb (r .at + widthOf (demandAt (v .demands) (r .who))) (v .band .slots) within)
 
 module _ (v : View) (s : List ℕ) (at : ℕ) (rows : List Row) where
   -- a field that is refused is refused for the same as a row

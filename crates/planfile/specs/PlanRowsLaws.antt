@@ -12,7 +12,7 @@ use Rattle.refusal.specs.declared.Refusal.the-variants.{UnknownIdent, IdentSeen
 use Rattle.theory.specs.Problem.{Row, startIn}
 use Rattle.request.specs.declared.Checked.{Checked}
 use Rattle.request.specs.declared.Checked.the-variants.{Sound, Refused}
-use Rattle.request.specs.View.{View, demandAt}
+use Rattle.request.specs.View.{View, demandAt, widthOf}
 use Rattle.request.specs.Check.{then, check, must}
 use Rattle.request.specs.CheckLaws.{then-sound, then-refused, first-sound, next-sound, by-check, test-held}
 use Rattle.theory.specs.TestLaws.{by-test}
@@ -40,12 +40,12 @@ unfolding checkNewRow
 new-row-holds v at rows r h =
     let known = must (ltb (r .who) (length (v .demands))) (UnknownIdent at) in
     let new = must (not (given rows (r .who))) (IdentSeen at) in
-    let ends = must (leb (r .at + demandAt (v .demands) (r .who) .width) (v .band .slots)) (EndAbove at) in
+    let ends = must (leb (r .at + widthOf (demandAt (v .demands) (r .who))) (v .band .slots)) (EndAbove at) in
     let later = next-sound known (then new ends) h in
     record {
       listed = ltb-true (r .who) (length (v .demands)) (test-held _ (UnknownIdent at) (first-sound known (then new ends) h));
       first = not-true (given rows (r .who)) (test-held _ (IdentSeen at) (first-sound new ends later));
-      within = leb-true (r .at + demandAt (v .demands) (r .who) .width) (v .band .slots) (test-held _ (EndAbove at) (next-sound new ends later));
+      within = leb-true (r .at + widthOf (demandAt (v .demands) (r .who))) (v .band .slots) (test-held _ (EndAbove at) (next-sound new ends later));
     }
 
 -- a sound field holds a sound row
@@ -54,16 +54,16 @@ unfolding checkRow
 row-holds v s at rows h = new-row-holds v at rows (rowIn v s at) (next-sound (checkField s at 4 4 4) (checkNewRow v at rows (rowIn v s at)) h)
 
 -- one row more
-within-more : (v : View) (rows : List Row) (r : Row) → r .at + demandAt (v .demands) (r .who) .width ≤ v .band .slots → RowsWithin v rows → RowsWithin v (r ∷ rows)
+within-more : (v : View) (rows : List Row) (r : Row) → r .at + widthOf (demandAt (v .demands) (r .who)) ≤ v .band .slots → RowsWithin v rows → RowsWithin v (r ∷ rows)
 unfolding given startIn
 within-more v rows r here before k h =
     by-test (eqb (r .who) k)
     (λ t.
-    subst (λ (n : ℕ). n + demandAt (v .demands) k .width ≤ v .band .slots) (sym (ap (λ (b : Bool). cond b (r .at) (startIn rows k)) t))
-    (subst (λ (n : ℕ). r .at + demandAt (v .demands) n .width ≤ v .band .slots) (eqb-true (r .who) k t) here))
+    subst (λ (n : ℕ). n + widthOf (demandAt (v .demands) k) ≤ v .band .slots) (sym (ap (λ (b : Bool). cond b (r .at) (startIn rows k)) t))
+    (subst (λ (n : ℕ). r .at + widthOf (demandAt (v .demands) n) ≤ v .band .slots) (eqb-true (r .who) k t) here))
     (λ f.
     let later : given rows k ≡ true = rw f at h in
-    subst (λ (n : ℕ). n + demandAt (v .demands) k .width ≤ v .band .slots) (sym (ap (λ (b : Bool). cond b (r .at) (startIn rows k)) f)) (before k later))
+    subst (λ (n : ℕ). n + widthOf (demandAt (v .demands) k) ≤ v .band .slots) (sym (ap (λ (b : Bool). cond b (r .at) (startIn rows k)) f)) (before k later))
 
 -- a reading that goes on after a check has passed it
 pub next-passed : (x : Checked) (rest : RowsRead) (out : List Row) → nextRows x rest ≡ rowsRead out → (x ≡ Sound) × (rest ≡ rowsRead out)
@@ -120,7 +120,7 @@ rows-ends v s rows counted read whole =
     (λ p h.
     let has : given rows p ≡ true = given-all K rows whole p (omega arith) in
     let start : startAt (startsOf K rows) (0 + p) ≡ startIn rows p = ap (startAt (startsOf K rows)) (omega arith) ∙ start-listed K rows p (omega arith) in
-    subst (λ (n : ℕ). n + demandAt (v .demands) p .width ≤ v .band .slots) (sym start)
+    subst (λ (n : ℕ). n + widthOf (demandAt (v .demands) p) ≤ v .band .slots) (sym start)
     (read-within 201 v s 0 [] rows read (λ k none. absurd (let z : _≡_ {A = ℕ} 0 1 = cc in omega arith)) p has))
 
 -- so of their check only 18 is left

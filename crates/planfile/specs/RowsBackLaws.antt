@@ -15,7 +15,7 @@ use Rattle.fields.specs.FieldLaws.{left-over, field-sound}
 use Rattle.request.specs.RoundTrip.{Idents16}
 use Rattle.request.specs.Sound.{SoundRequest}
 use Rattle.theory.specs.TestLaws.{by-test}
-use Rattle.request.specs.View.{View, demandAt}
+use Rattle.request.specs.View.{View, demandAt, widthOf}
 use Rattle.request.specs.declared.Checked.the-variants.{Sound}
 use Rattle.meeting.specs.Plan.{startAt}
 use Rattle.planfile.specs.PlanPackingLaws.{row-end}
@@ -35,7 +35,7 @@ rows-of-more starts rows k same j h =
     start-still rows r j differ ∙ same j (⊎-elim (λ (e : j ≡ k). absurd (differ (sym e))) (λ later. later) (given-cases rows r j h)))
 
 module _ (v : View) (sound : SoundRequest v) (counted : length (v .demands) ≡ v .demandCount) (named : Idents16 v) (slots : v .band .slots < 65536)
-    (starts : List ℕ) (ends : (k : ℕ) → k < v .demandCount → startAt starts k + demandAt (v .demands) k .width ≤ v .band .slots) where
+    (starts : List ℕ) (ends : (k : ℕ) → k < v .demandCount → startAt starts k + widthOf (demandAt (v .demands) k) ≤ v .band .slots) where
   -- the rows of an order are read back, whatever the order
   pub rows-back : (order : List ℕ) (left : ℕ) (s : List ℕ) (at : ℕ) (rows : List Row) → length order < left → at ≤ length s →
       drop at s ≡ rowsInOrder v starts order → NoRepeats order → ((k : ℕ) → List·Memᴰ k order → k < v .demandCount) →

@@ -10,6 +10,7 @@ use refusal::Refusal;
 use request::Checked;
 use request::Request;
 use request::check_request;
+use request::width_of;
 ghost use mathlib.Core.Path.{_≡_};
 ghost use mathlib.Core.List.{[]};
 ghost use Prim.Native.Nat.{_≤_};
@@ -118,7 +119,8 @@ fn read_rows(request: Request, file: &[u8]) -> RowsFound
         }
         let start = number_in(file, at + 5);
         let demand = request.demands[who];
-        if !end_within(slots, start as u64, demand.width) {
+        let width = width_of(demand);
+        if !end_within(slots, start as u64, width) {
             return no_rows(Refusal::EndAbove(at));
         }
         given[who] = true;

@@ -10,35 +10,37 @@ use lib.Dec.{ltb, eqb}
 use Rattle.refusal.specs.declared.Refusal.the-variants.{BadLink}
 use Rattle.request.specs.declared.Link.{Link}
 use Rattle.request.specs.declared.Checked.the-variants.{Sound, Refused}
-use Rattle.request.specs.View.{DemandView, demandAt, idents}
+use Rattle.request.specs.View.{DemandView, demandAt, idents, widthOf}
 use Rattle.request.specs.Check.{checkLinks, checkDemand, checkDemands}
 use Rattle.request.specs.CheckLaws.{first-sound, next-sound, width-allowed, hops-allowed}
 use Rattle.request.specs.SoundLaws.{not-refused, sound-passes}
 use Rattle.request.specs.Encoding.{twoBytes, field, linkField, linkFields, demandFields}
-use Rattle.reading.specs.Reading.{linkIn, checkLinkField, checkNewDemand, checkDemandField, linksEnd, linksRead, readLinks, demandsRead, readDemands}
+use Rattle.reading.specs.Reading.{linkIn, checkLinkField, demandsBegin, demandTag, checkNewDemand, checkDemandField, linksEnd, linksRead, readLinks, demandsRead, readDemands}
 use Rattle.fields.specs.FieldLaws.{field-sound, byte-at, left-over}
 use Rattle.reading.specs.LinksLaws.{link-sound, link-end, links-done, links-more}
 use Rattle.request.specs.ViewLaws.{idents-length, idents-more}
 use Rattle.reading.specs.DemandsLaws.{demand-sound, demand-then, demand-end, demands-done, demands-more}
 use Rattle.reading.specs.FieldLaws.{link-there, demand-there}
 use Rattle.reading.specs.inner.Fields.{LinkThere}
+use Rattle.reading.specs.AskedLaws.{asked-fits}
 
 -- the links end where nothing follows, or a demand
-ends-here : (s : List ℕ) (at : ℕ) (rest : List ℕ) → at ≤ length s → drop at s ≡ rest → getD rest 0 3 ≡ 3 → eqb at (length s) || eqb (getD s at 0) 3 ≡ true
+ends-here : (s : List ℕ) (at : ℕ) (rest : List ℕ) → at ≤ length s → drop at s ≡ rest → demandsBegin (getD rest 0 3) ≡ true → eqb at (length s) || demandsBegin (getD s at 0) ≡ true
 ends-here s at [] within e last =
     let done : at ≡ length s = let none = left-over s at [] e in omega arith in
-    ap (λ (b : Bool). b || eqb (getD s at 0) 3) (eq-eqb at (length s) done)
+    ap (λ (b : Bool). b || demandsBegin (getD s at 0)) (eq-eqb at (length s) done)
 ends-here s at (x ∷ xs) within e last =
-    rw (eq-eqb (getD s at 0) 3 (byte-at s at (x ∷ xs) e at 0 (omega arith) ∙ last)) (or-true (eqb at (length s)))
+    rw (byte-at s at (x ∷ xs) e at 0 (omega arith), last) (or-true (eqb at (length s)))
 
 -- where a link's field stands, the links do not end
 goes-on : (s : List ℕ) (at count : ℕ) (l : Link) (rest : List ℕ) → LinkThere s at l rest → linksEnd s at count ≡ false
-unfolding linksEnd
+unfolding linksEnd demandsBegin
 goes-on s at count l rest there =
     let field = there .sound-field in
     let not-last : eqb at (length s) ≡ false = ne-eqb at (length s) (λ (z : at ≡ length s). omega arith) in
-    let no-demand : eqb (getD s at 0) 3 ≡ false = ne-eqb (getD s at 0) 3 (λ (z : getD s at 0 ≡ 3). omega arith) in
-    rw (not-last, no-demand) (and-false (ltb 0 count))
+    let no-width : eqb (getD s at 0) 3 ≡ false = ne-eqb (getD s at 0) 3 (λ (z : getD s at 0 ≡ 3). omega arith) in
+    let no-rate : eqb (getD s at 0) 5 ≡ false = ne-eqb (getD s at 0) 5 (λ (z : getD s at 0 ≡ 5). omega arith) in
+    rw (not-last, no-width, no-rate) (and-false (ltb 0 count))
 
 -- it is sound where there is room and its nodes differ
 field-there : (s : List ℕ) (at count : ℕ) (l : Link) (rest : List ℕ) → LinkThere s at l rest → count < 64 → (l .from ≡ l .to → ⊥) → Sound ≡ checkLinkField s at count
@@ -52,7 +54,7 @@ field-there s at count l rest there room differ =
 -- links are read back
 pub links-back : (more : List Link) (left : ℕ) (s : List ℕ) (at : ℕ) (before : List Link) (rest : List ℕ) (k : ℕ) →
     length more < left → length before + length more ≤ 64 → 0 < length before + length more → at ≤ length s →
-    drop at s ≡ linkFields more ++ rest → getD rest 0 3 ≡ 3 → checkLinks k more ≡ Sound →
+    drop at s ≡ linkFields more ++ rest → demandsBegin (getD rest 0 3) ≡ true → checkLinks k more ≡ Sound →
     readLinks left s at before ≡ linksRead (before ++ more) (at + length (linkFields more))
 unfolding linkFields linkField field twoBytes checkLinks linksEnd
 links-back [] zero s at before rest k fuel few some within e last sound = absurd (omega arith)
@@ -91,14 +93,14 @@ demands-back (d ∷ more) zero S links s at before k fuel few slots within e sou
 demands-back (d ∷ more) (suc left) S links s at before k fuel few slots within e sound counted named =
     let next = checkDemands S links (idents before ++ (d .ident ∷ [])) (k + 1) more in
     let passes = sound-passes S links (idents before) k d (first-sound (checkDemand S links (idents before) k d) next sound) in
-    let width = width-allowed S (d .width) (passes .width-allowed) in
+    let width = width-allowed S (widthOf d) (passes .width-allowed) in
     let hops = hops-allowed (d .hops) (passes .hops-allowed) in
-    let there = demand-there s at d (demandFields more) within e (named 0 (omega arith)) (omega (arith, width .1)) (counted 0 (omega arith) (hops .1)) (hops .0) (hops .1) in
+    let there = demand-there s at d (demandFields more) within e (named 0 (omega arith)) (asked-fits S d slots (passes .asked-known) (width .1)) (counted 0 (omega arith) (hops .1)) (hops .0) (hops .1) in
     let field = there .sound-field in
     let room : length (idents before) < 200 = omega (arith, idents-length before) in
     let good : Sound ≡ checkDemandField S links s at (idents before)
-    = demand-then S links s at (idents before) (sym (field-sound s at 3 5 36 field))
-    (demand-sound S links (idents before) at d room (passes .ident-new) (passes .width-allowed) (passes .route-sound) ∙
+    = demand-then S links s at (idents before) (sym (field-sound s at (demandTag s at) 5 36 field))
+    (demand-sound S links (idents before) at d room (passes .ident-new) (passes .asked-known) (passes .width-allowed) (passes .route-sound) ∙
     ap (checkNewDemand S links (idents before) at) (sym (there .same))) in
     let grown = length-append before (d ∷ []) in
     demands-more left S links s at before (λ (z : at ≡ length s). omega arith) good ∙

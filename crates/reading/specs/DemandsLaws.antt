@@ -9,16 +9,16 @@ use lib.ListN.{length, set, take, drop, replicate, length-append, length-map, le
 use lib.Seq.{length-take-le}
 use lib.Dec.{ltb}
 use Rattle.refusal.specs.declared.Refusal.{Refusal}
-use Rattle.refusal.specs.declared.Refusal.the-variants.{TooManyDemands, IdentUsed, BadWidth, BadRoute}
+use Rattle.refusal.specs.declared.Refusal.the-variants.{TooManyDemands, IdentUsed, UnknownRate, BadWidth, BadRoute}
 use Rattle.grid.specs.Grid.{allowedWidth}
 use Rattle.request.specs.declared.Link.{Link}
 use Rattle.request.specs.declared.Demand.{Demand}
 use Rattle.request.specs.declared.Checked.{Checked}
 use Rattle.request.specs.declared.Checked.the-variants.{Sound, Refused}
-use Rattle.request.specs.View.{DemandView, viewDemand, idents}
-use Rattle.request.specs.Check.{then, has, soundRoute, must}
+use Rattle.request.specs.View.{DemandView, viewDemand, idents, widthOf}
+use Rattle.request.specs.Check.{then, has, soundRoute, must, knownAsked}
 use Rattle.fields.specs.Field.{number16, bodyLength, fieldEnd, checkField}
-use Rattle.reading.specs.Reading.{demandIn, checkNewDemand, checkDemandField, demandsRefused, demandsRead, nextDemands, readDemands}
+use Rattle.reading.specs.Reading.{demandTag, demandIn, checkNewDemand, checkDemandField, demandsRefused, demandsRead, nextDemands, readDemands}
 use Rattle.request.specs.Packing.{padded, emptyDemand, packDemand}
 use Rattle.reading.specs.inner.PartsPacking.{packDemands}
 use Rattle.request.specs.CheckLaws.{first-sound, next-sound, test-held}
@@ -41,20 +41,25 @@ module _ (S : ℕ) (links : List Link) (earlier : List ℕ) (at : ℕ) (d : Dema
     unfolding checkNewDemand then must
     demand-used used = rw (lt-ltb (length earlier) 200 few, used)
 
-    -- 9: a width outside the band
-    pub demand-wide : has (d .ident) earlier ≡ false → allowedWidth S (d .width) ≡ false → Refused (BadWidth at) ≡ checkNewDemand S links earlier at d
+    -- 21: a rate that is not in the table
+    pub demand-unknown : has (d .ident) earlier ≡ false → knownAsked (d .asked) ≡ false → Refused (UnknownRate at) ≡ checkNewDemand S links earlier at d
     unfolding checkNewDemand then must
-    demand-wide new wide = rw (lt-ltb (length earlier) 200 few, new, wide)
+    demand-unknown new unknown = rw (lt-ltb (length earlier) 200 few, new, unknown)
+
+    -- 9: a width outside the band
+    pub demand-wide : has (d .ident) earlier ≡ false → knownAsked (d .asked) ≡ true → allowedWidth S (widthOf d) ≡ false → Refused (BadWidth at) ≡ checkNewDemand S links earlier at d
+    unfolding checkNewDemand then must
+    demand-wide new known wide = rw (lt-ltb (length earlier) 200 few, new, known, wide)
 
     -- 7: an unsound route
-    pub demand-astray : has (d .ident) earlier ≡ false → allowedWidth S (d .width) ≡ true → soundRoute links (d .route) ≡ false → Refused (BadRoute at) ≡ checkNewDemand S links earlier at d
+    pub demand-astray : has (d .ident) earlier ≡ false → knownAsked (d .asked) ≡ true → allowedWidth S (widthOf d) ≡ true → soundRoute links (d .route) ≡ false → Refused (BadRoute at) ≡ checkNewDemand S links earlier at d
     unfolding checkNewDemand then must
-    demand-astray new width astray = rw (lt-ltb (length earlier) 200 few, new, width, astray)
+    demand-astray new known width astray = rw (lt-ltb (length earlier) 200 few, new, known, width, astray)
 
     -- a demand with none of these faults
-    pub demand-sound : has (d .ident) earlier ≡ false → allowedWidth S (d .width) ≡ true → soundRoute links (d .route) ≡ true → Sound ≡ checkNewDemand S links earlier at d
+    pub demand-sound : has (d .ident) earlier ≡ false → knownAsked (d .asked) ≡ true → allowedWidth S (widthOf d) ≡ true → soundRoute links (d .route) ≡ true → Sound ≡ checkNewDemand S links earlier at d
     unfolding checkNewDemand then must
-    demand-sound new width route = rw (lt-ltb (length earlier) 200 few, new, width, route)
+    demand-sound new known width route = rw (lt-ltb (length earlier) 200 few, new, known, width, route)
 
 -- a new demand that is sound says so
 pub demand-holds : (S : ℕ) (links : List Link) (earlier : List ℕ) (at : ℕ) (d : DemandView) → checkNewDemand S links earlier at d ≡ Sound → NewDemandHolds S links earlier d
@@ -62,23 +67,25 @@ unfolding checkNewDemand
 demand-holds S links earlier at d sound =
     let one = next-sound (must (ltb (length earlier) 200) (TooManyDemands at)) _ sound in
     let two = next-sound (must (not (has (d .ident) earlier)) (IdentUsed at)) _ one in
-    let three : must (soundRoute links (d .route)) (BadRoute at) ≡ Sound
-    = next-sound (must (allowedWidth S (d .width)) (BadWidth at)) _ two in
+    let three = next-sound (must (knownAsked (d .asked)) (UnknownRate at)) _ two in
+    let four : must (soundRoute links (d .route)) (BadRoute at) ≡ Sound
+    = next-sound (must (allowedWidth S (widthOf d)) (BadWidth at)) _ three in
     record {
       room = ltb-true (length earlier) 200 (test-held (ltb (length earlier) 200) (TooManyDemands at) (first-sound (must (ltb (length earlier) 200) (TooManyDemands at)) _ sound));
       ident-new = not-true (has (d .ident) earlier) (test-held (not (has (d .ident) earlier)) (IdentUsed at) (first-sound (must (not (has (d .ident) earlier)) (IdentUsed at)) _ one));
-      width-allowed = test-held (allowedWidth S (d .width)) (BadWidth at) (first-sound (must (allowedWidth S (d .width)) (BadWidth at)) _ two);
-      route-sound = test-held (soundRoute links (d .route)) (BadRoute at) three;
+      asked-known = test-held (knownAsked (d .asked)) (UnknownRate at) (first-sound (must (knownAsked (d .asked)) (UnknownRate at)) _ two);
+      width-allowed = test-held (allowedWidth S (widthOf d)) (BadWidth at) (first-sound (must (allowedWidth S (widthOf d)) (BadWidth at)) _ three);
+      route-sound = test-held (soundRoute links (d .route)) (BadRoute at) four;
     }
 
 -- a demand in a sound field has a route of as many links as it says
-pub demand-counted : (s : List ℕ) (at : ℕ) → FieldHolds s at 3 5 36 → length (demandIn s at .route) ≡ demandIn s at .hops
+pub demand-counted : (s : List ℕ) (at : ℕ) → FieldHolds s at (demandTag s at) 5 36 → length (demandIn s at .route) ≡ demandIn s at .hops
 unfolding demandIn bodyLength
 demand-counted s at h =
     length-take-le (number16 s (at + 1) - 4) (drop (at + 7) s) (rw (length-drop (at + 7) s) (omega arith))
 
 -- a demand's field ends behind its route
-pub demand-end : (s : List ℕ) (at : ℕ) → FieldHolds s at 3 5 36 → fieldEnd s at ≡ at + 7 + demandIn s at .hops
+pub demand-end : (s : List ℕ) (at : ℕ) → FieldHolds s at (demandTag s at) 5 36 → fieldEnd s at ≡ at + 7 + demandIn s at .hops
 unfolding fieldEnd demandIn bodyLength
 demand-end s at h = omega arith
 
@@ -99,12 +106,16 @@ module _ (left S : ℕ) (links : List Link) (s : List ℕ) (at : ℕ) (demands :
   unfolding readDemands nextDemands
   demands-more more sound = rw (ne-eqb at (length s) more, ← sound)
 
+-- a field is tested for the tag that a demand's field must have
+pub field-tagged : {answer : Checked} (s : List ℕ) (at tag : ℕ) → tag ≡ demandTag s at → answer ≡ checkField s at tag 5 36 → answer ≡ checkField s at (demandTag s at) 5 36
+field-tagged s at tag same e = e ∙ ap (λ (t : ℕ). checkField s at t 5 36) same
+
 -- the two parts of a demand's field: the field, then the demand in it
-pub field-first : {why : Refusal} (S : ℕ) (links : List Link) (s : List ℕ) (at : ℕ) (earlier : List ℕ) → Refused why ≡ checkField s at 3 5 36 → Refused why ≡ checkDemandField S links s at earlier
+pub field-first : {why : Refusal} (S : ℕ) (links : List Link) (s : List ℕ) (at : ℕ) (earlier : List ℕ) → Refused why ≡ checkField s at (demandTag s at) 5 36 → Refused why ≡ checkDemandField S links s at earlier
 unfolding checkDemandField then
 field-first S links s at earlier fault = rw (← fault)
 
-pub demand-then : {answer : Checked} (S : ℕ) (links : List Link) (s : List ℕ) (at : ℕ) (earlier : List ℕ) → Sound ≡ checkField s at 3 5 36 → answer ≡ checkNewDemand S links earlier at (demandIn s at) → answer ≡ checkDemandField S links s at earlier
+pub demand-then : {answer : Checked} (S : ℕ) (links : List Link) (s : List ℕ) (at : ℕ) (earlier : List ℕ) → Sound ≡ checkField s at (demandTag s at) 5 36 → answer ≡ checkNewDemand S links earlier at (demandIn s at) → answer ≡ checkDemandField S links s at earlier
 unfolding checkDemandField then
 demand-then S links s at earlier sound e = rw (← sound) e
 
@@ -161,7 +172,7 @@ module _ (S : ℕ) (links : List Link) (s : List ℕ) (start at count : ℕ) (ar
   pub demand-room : Sound ≡ checkDemandField S links s at (take count used) → count < 200
   unfolding checkDemandField
   demand-room sound =
-      let holds = demand-holds S links (take count used) at (demandIn s at) (next-sound (checkField s at 3 5 36) _ (sym sound)) in
+      let holds = demand-holds S links (take count used) at (demandIn s at) (next-sound (checkField s at (demandTag s at) 5 36) _ (sym sound)) in
       omega (arith, holds .room, used-length)
 
   -- one demand more
@@ -169,7 +180,7 @@ module _ (S : ℕ) (links : List Link) (s : List ℕ) (start at count : ℕ) (ar
       DemandsSoFar S links s start (at + 7 + demandIn s at .hops) (count + 1) (set array count (packDemand (demandIn s at))) (set used count (demandIn s at .ident))
   unfolding idents checkDemandField
   demands-next more sound =
-      let field : FieldHolds s at 3 5 36 = field-holds s at 3 5 36 (first-sound (checkField s at 3 5 36) _ (sym sound)) in
+      let field : FieldHolds s at (demandTag s at) 5 36 = field-holds s at (demandTag s at) 5 36 (first-sound (checkField s at (demandTag s at) 5 36) _ (sym sound)) in
       let room : count < 200 = demand-room sound in
       let end : fieldEnd s at ≡ at + 7 + demandIn s at .hops = demand-end s at field in
       let left : 200 - count ≡ 201 - (count + 1) = omega arith in
@@ -197,10 +208,10 @@ module _ (S : ℕ) (links : List Link) (s : List ℕ) (start at count : ℕ) (ar
 
   module _ (demand : Demand) (read : demand ≡ packDemand (demandIn s at)) where
     -- the demand read is checked in its array as in its field
-    pub demand-here : {answer : Checked} → Sound ≡ checkField s at 3 5 36 → answer ≡ checkNewDemand S links (take count used) at (viewDemand demand) →
+    pub demand-here : {answer : Checked} → Sound ≡ checkField s at (demandTag s at) 5 36 → answer ≡ checkNewDemand S links (take count used) at (viewDemand demand) →
         answer ≡ checkDemandField S links s at (take count used)
     demand-here field e =
-        let counted = demand-counted s at (field-holds s at 3 5 36 (sym field)) in
+        let counted = demand-counted s at (field-holds s at (demandTag s at) 5 36 (sym field)) in
         demand-then S links s at (take count used) field
         (e ∙ ap (checkNewDemand S links (take count used) at) (ap viewDemand read ∙ view-packed (demandIn s at) counted))
 

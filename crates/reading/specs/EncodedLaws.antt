@@ -17,7 +17,7 @@ use Rattle.theory.specs.TestLaws.{by-test, and-first, and-both}
 use Rattle.request.specs.CheckLaws.{then-sound, next-sound, first-sound, demand-passes, by-check}
 use Rattle.request.specs.Encoding.{linkField, demandField, linkFields, demandFields}
 use Rattle.fields.specs.Field.{number16, bodyLength, checkField}
-use Rattle.reading.specs.Reading.{linkIn, checkLinkField, demandIn, checkNewDemand, checkDemandField, linksEnd, linksRefused, linksRead, readLinks, demandsRefused, demandsRead, readDemands}
+use Rattle.reading.specs.Reading.{linkIn, checkLinkField, demandTag, demandIn, checkNewDemand, checkDemandField, linksEnd, linksRefused, linksRead, readLinks, demandsRefused, demandsRead, readDemands}
 use Rattle.fields.specs.FieldLaws.{field-holds, field-within}
 use Rattle.reading.specs.LinksLaws.{link-holds, link-end, links-done, links-fault, links-more}
 use Rattle.request.specs.ViewLaws.{idents-length, idents-more}
@@ -111,7 +111,7 @@ demands-ended S links s at before done few =
     }
 
 -- a demand's route length is allowed where its field's length is
-hops-in-field : (s : List ℕ) (at : ℕ) → FieldHolds s at 3 5 36 → allowedHops (demandIn s at .hops) ≡ true
+hops-in-field : (s : List ℕ) (at : ℕ) → FieldHolds s at (demandTag s at) 5 36 → allowedHops (demandIn s at .hops) ≡ true
 unfolding allowedHops demandIn bodyLength
 hops-in-field s at h =
     let hops = number16 s (at + 1) - 4 in
@@ -123,7 +123,7 @@ unfolding demandIn number16
 ident-in-field s at bytes = omega (arith, bytes .each (at + 3), bytes .each (at + 3 + 1))
 
 -- one demand more in front
-demands-grown : (S : ℕ) (links : List Link) (s : List ℕ) (at : ℕ) (before demands : List DemandView) → Bytes s → FieldHolds s at 3 5 36 →
+demands-grown : (S : ℕ) (links : List Link) (s : List ℕ) (at : ℕ) (before demands : List DemandView) → Bytes s → FieldHolds s at (demandTag s at) 5 36 →
     NewDemandHolds S links (idents before) (demandIn s at) →
     DemandsEncoded S links s (at + 7 + demandIn s at .hops) (before ++ (demandIn s at ∷ [])) demands → DemandsEncoded S links s at before demands
 unfolding demandFields checkDemands
@@ -136,7 +136,7 @@ demands-grown S links s at before demands bytes field holds rest =
       few = rest .few;
       sound = λ (k : ℕ).
           then-sound (checkDemand S links (idents before) k d) (checkDemands S links (idents before ++ (d .ident ∷ [])) (k + 1) (rest .more))
-          (demand-passes S links (idents before) k d (holds .ident-new) (holds .width-allowed) (hops-in-field s at field) (holds .route-sound)) ∙
+          (demand-passes S links (idents before) k d (holds .ident-new) (holds .asked-known) (holds .width-allowed) (hops-in-field s at field) (holds .route-sound)) ∙
           (rw (idents-more before d) at (rest .sound (k + 1)));
       counted = each-demand (λ (x : DemandView). length (x .route) ≡ x .hops) d (rest .more) (demand-counted s at field) (rest .counted);
       named = each-demand (λ (x : DemandView). x .ident < 65536) d (rest .more) (ident-in-field s at bytes) (rest .named);
@@ -158,8 +158,8 @@ demands-encoded (suc left) S links s at before demands bytes within few e =
     let more = eqb-false at (length s) not-done in
     by-check (checkDemandField S links s at (idents before))
     (λ (sound : checkDemandField S links s at (idents before) ≡ Sound).
-    let field = field-holds s at 3 5 36 (first-sound (checkField s at 3 5 36) (checkNewDemand S links (idents before) at (demandIn s at)) sound) in
-    let holds = demand-holds S links (idents before) at (demandIn s at) (next-sound (checkField s at 3 5 36) (checkNewDemand S links (idents before) at (demandIn s at)) sound) in
+    let field = field-holds s at (demandTag s at) 5 36 (first-sound (checkField s at (demandTag s at) 5 36) (checkNewDemand S links (idents before) at (demandIn s at)) sound) in
+    let holds = demand-holds S links (idents before) at (demandIn s at) (next-sound (checkField s at (demandTag s at) 5 36) (checkNewDemand S links (idents before) at (demandIn s at)) sound) in
     let grown = length-append before (demandIn s at ∷ []) in
     let rest : readDemands left S links s (at + 7 + demandIn s at .hops) (before ++ (demandIn s at ∷ [])) ≡ demandsRead demands
     = ap (λ (n : ℕ). readDemands left S links s n (before ++ (demandIn s at ∷ []))) (sym (demand-end s at field)) ∙

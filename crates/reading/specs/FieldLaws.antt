@@ -11,14 +11,15 @@ use mir.Val.{SFits}
 use Rattle.grid.specs.declared.Band.{Band}
 use Rattle.request.specs.declared.Link.{Link}
 use Rattle.request.specs.View.{DemandView}
-use Rattle.request.specs.Encoding.{twoBytes, bits16, field, bandField, linkField, demandField}
+use Rattle.request.specs.Encoding.{twoBytes, bits16, field, bandField, linkField, tagOf, numberAsked, demandField}
 use Rattle.fields.specs.Field.{number16, bodyLength}
-use Rattle.reading.specs.Reading.{bandIn, linkIn, demandIn}
+use Rattle.reading.specs.Reading.{bandIn, linkIn, demandTag, demandIn}
 use Rattle.request.specs.SignedLaws.{signed-of-bits, bits-of-signed, bits-fit}
 use Rattle.fields.specs.inner.Holds.{FieldHolds}
 use Rattle.reading.specs.inner.Fields.{BandThere, LinkThere, DemandThere}
 use Rattle.request.specs.RoundTrip.{Bytes}
 use Rattle.fields.specs.FieldLaws.{left-over, number-at, byte-at}
+use Rattle.reading.specs.AskedLaws.{asked-back, asked-tag, asked-number, tag-stands}
 
 -- a link's field that follows an offset stands there
 pub link-there : (s : List ℕ) (at : ℕ) (l : Link) (rest : List ℕ) → at ≤ length s → drop at s ≡ linkField l ++ rest → LinkThere s at l rest
@@ -55,21 +56,24 @@ link-written s at h =
 
 -- a demand's field that follows an offset stands there, if its numbers are in range
 pub demand-there : (s : List ℕ) (at : ℕ) (d : DemandView) (rest : List ℕ) → at ≤ length s → drop at s ≡ demandField d ++ rest →
-    d .ident < 65536 → d .width < 65536 → length (d .route) ≡ d .hops → 1 ≤ d .hops → d .hops ≤ 32 → DemandThere s at d rest
+    d .ident < 65536 → numberAsked (d .asked) < 65536 → length (d .route) ≡ d .hops → 1 ≤ d .hops → d .hops ≤ 32 → DemandThere s at d rest
 unfolding demandField field twoBytes demandIn bodyLength
-demand-there s at d rest within e ident width counted some few =
+demand-there s at d rest within e ident fits counted some few =
+    let tag = tagOf (d .asked) in
+    let number = numberAsked (d .asked) in
     let n = length (d .route) in
     let body = suc (suc (suc (suc n))) in
-    let bytes : List ℕ = 3 ∷ body / 256 ∷ body % 256 ∷ d .ident / 256 ∷ d .ident % 256 ∷ d .width / 256 ∷ d .width % 256 ∷ (d .route ++ rest) in
+    let bytes : List ℕ = tag ∷ body / 256 ∷ body % 256 ∷ d .ident / 256 ∷ d .ident % 256 ∷ number / 256 ∷ number % 256 ∷ (d .route ++ rest) in
     let size : length s - at ≡ suc (suc (suc (suc (suc (suc (suc (length (d .route ++ rest)))))))) = left-over s at bytes e in
     let total = length-append (d .route) rest in
     let long : number16 s (at + 1) ≡ body = number-at s at body bytes 1 (at + 1) e (omega arith) refl refl refl in
     let hops : number16 s (at + 1) - 4 ≡ d .hops = omega arith in
+    let tagged : getD s at 0 ≡ tag = byte-at s at bytes e at 0 (omega arith) in
     let behind-seven : drop (at + 7) s ≡ d .route ++ rest = sym (drop-drop 7 at s) ∙ ap (drop 7) e in
     record {
-      sound-field = record { within = omega arith; tagged = byte-at s at bytes e at 0 (omega arith); long-enough = omega arith; short-enough = omega arith };
+      sound-field = record { within = omega arith; tagged = tag-stands s at (d .asked) tagged; long-enough = omega arith; short-enough = omega arith };
       same =
-          rw (number-at s at (d .ident) bytes 3 (at + 3) e ident refl refl refl, number-at s at (d .width) bytes 5 (at + 5) e width refl refl refl, hops, behind-seven, take-at (d .route) rest (d .hops) counted);
+          rw (number-at s at (d .ident) bytes 3 (at + 3) e ident refl refl refl, number-at s at number bytes 5 (at + 5) e fits refl refl refl, tagged, asked-back (d .asked), hops, behind-seven, take-at (d .route) rest (d .hops) counted);
       end-within = omega arith;
       behind = sym (drop-drop (d .hops) (at + 7) s) ∙ ap (drop (d .hops)) behind-seven ∙ drop-at (d .route) rest (d .hops) counted;
     }
@@ -82,7 +86,7 @@ low-byte : (s : List ℕ) (at i : ℕ) → Bytes s → number16 s (at + i) % 256
 low-byte s at i bytes = let low = bytes .each (at + suc i) in omega (arith, pair-at s at i)
 
 -- a sound demand's field is the field of the demand that is read from it
-pub demand-written : (s : List ℕ) (at : ℕ) → Bytes s → FieldHolds s at 3 5 36 → drop at s ≡ demandField (demandIn s at) ++ drop (at + 7 + demandIn s at .hops) s
+pub demand-written : (s : List ℕ) (at : ℕ) → Bytes s → FieldHolds s at (demandTag s at) 5 36 → drop at s ≡ demandField (demandIn s at) ++ drop (at + 7 + demandIn s at .hops) s
 unfolding demandField field twoBytes demandIn bodyLength
 demand-written s at bytes h =
     let hops = number16 s (at + 1) - 4 in
@@ -91,7 +95,8 @@ demand-written s at bytes h =
     let body : suc (suc (suc (suc (length route)))) ≡ number16 s (at + 1) = omega arith in
     let tail : route ++ drop (at + 7 + hops) s ≡ drop (at + 7) s
     = ap (λ (r : List ℕ). route ++ r) (sym (drop-drop hops (at + 7) s)) ∙ take-append-drop hops (drop (at + 7) s) in
-    rw (body, tail, high-byte s at 1 bytes, low-byte s at 1 bytes, high-byte s at 3 bytes, low-byte s at 3 bytes, high-byte s at 5 bytes, low-byte s at 5 bytes, here s at (omega arith), onward s at 1 (omega arith), onward s at 2 (omega arith), onward s at 3 (omega arith), onward s at 4 (omega arith), onward s at 5 (omega arith), onward s at 6 (omega arith), h .tagged)
+    let number = number16 s (at + 5) in
+    rw (asked-tag s at number (h .tagged), asked-number (getD s at 0) number, body, tail, high-byte s at 1 bytes, low-byte s at 1 bytes, high-byte s at 3 bytes, low-byte s at 3 bytes, high-byte s at 5 bytes, low-byte s at 5 bytes, here s at (omega arith), onward s at 1 (omega arith), onward s at 2 (omega arith), onward s at 3 (omega arith), onward s at 4 (omega arith), onward s at 5 (omega arith), onward s at 6 (omega arith))
 
 -- the band's field at the front of a file stands there, if its numbers are in range
 pub band-there : (s : List ℕ) (b : Band) (rest : List ℕ) → s ≡ bandField b ++ rest → SFits w16 (b .n0) → b .slots < 65536 → BandThere s b rest

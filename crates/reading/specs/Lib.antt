@@ -1,6 +1,7 @@
 -- Request files read.
 pub mod Reading
 pub mod ReadingLaws
+pub mod AskedLaws
 pub mod FieldLaws
 pub mod FilePacking
 pub mod LinksLaws

@@ -5,14 +5,16 @@ use mathlib.Core.List.{List, [], _∷_, _++_}
 use lib.ListN.{length, getD, take, drop}
 use lib.Dec.{leb, ltb, eqb}
 use Rattle.refusal.specs.declared.Refusal.{Refusal}
-use Rattle.refusal.specs.declared.Refusal.the-variants.{WrongTag, BandOutside, BadLink, TooManyDemands, BadRoute, IdentUsed, BadWidth, FileTooLong}
+use Rattle.refusal.specs.declared.Refusal.the-variants.{WrongTag, BandOutside, BadLink, TooManyDemands, BadRoute, IdentUsed, BadWidth, FileTooLong, UnknownRate}
 use Rattle.grid.specs.declared.Band.{Band}
 use Rattle.grid.specs.Grid.{allowedBand, allowedWidth}
+use Rattle.request.specs.declared.Asked.{Asked}
+use Rattle.request.specs.declared.Asked.the-variants.{Width, Rate}
 use Rattle.request.specs.declared.Link.{Link}
 use Rattle.request.specs.declared.Checked.{Checked}
 use Rattle.request.specs.declared.Checked.the-variants.{Sound, Refused}
-use Rattle.request.specs.View.{DemandView, View, idents}
-use Rattle.request.specs.Check.{then, has, soundRoute, must}
+use Rattle.request.specs.View.{DemandView, View, idents, widthOf}
+use Rattle.request.specs.Check.{then, has, soundRoute, must, knownAsked}
 use Rattle.request.specs.Encoding.{signed16}
 use Rattle.fields.specs.Field.{number16, checkField, fieldEnd, bodyLength}
 
@@ -47,35 +49,49 @@ checkLinkField s at count =
     (then (must (ltb count 64) (BadLink at))
     (must (not (eqb (linkIn s at .from) (linkIn s at .to))) (BadLink at))))
 
+-- the tags with which a demand's field begins: 03 for one by its width, 05 for one by its rate
+unfoldable pub demandsBegin : ℕ → Bool
+demandsBegin tag = eqb tag 3 || eqb tag 5
+
+-- the tag that a demand's field must have: 05 where it stands there, else 03
+unfoldable pub demandTag : List ℕ → ℕ → ℕ
+demandTag s at = cond (eqb (getD s at 0) 5) 5 3
+
+-- what the number in a demand's field asks for: a rate under 05, else a width
+unfoldable pub askedIn : ℕ → ℕ → Asked
+askedIn tag n = cond (eqb tag 5) (Rate n) (Width n)
+
 -- the demand in the field at an offset
 unfoldable pub demandIn : List ℕ → ℕ → DemandView
-unfolding number16 bodyLength
+unfolding number16 bodyLength askedIn
 demandIn s at =
     record {
       ident = number16 s (at + 3);
-      width = number16 s (at + 5);
+      asked = askedIn (getD s at 0) (number16 s (at + 5));
       hops = bodyLength s at - 4;
       route = take (bodyLength s at - 4) (drop (at + 7) s);
     }
 
--- a demand after demands of these idents: 6, 8, 9, 7
+-- a demand after demands of these idents: 6, 8, 21, 9, 7
 unfoldable pub checkNewDemand : ℕ → List Link → List ℕ → ℕ → DemandView → Checked
-unfolding then must has soundRoute
+unfolding then must has knownAsked soundRoute
 checkNewDemand S links earlier at d =
     then (must (ltb (length earlier) 200) (TooManyDemands at))
     (then (must (not (has (d .ident) earlier)) (IdentUsed at))
-    (then (must (allowedWidth S (d .width)) (BadWidth at))
-    (must (soundRoute links (d .route)) (BadRoute at))))
+    (then (must (knownAsked (d .asked)) (UnknownRate at))
+    (then (must (allowedWidth S (widthOf d)) (BadWidth at))
+    (must (soundRoute links (d .route)) (BadRoute at)))))
 
 -- a demand's field: first what every field is tested for
 unfoldable pub checkDemandField : ℕ → List Link → List ℕ → ℕ → List ℕ → Checked
-unfolding then checkField demandIn checkNewDemand
+unfolding then checkField demandTag demandIn checkNewDemand
 checkDemandField S links s at earlier =
-    then (checkField s at 3 5 36) (checkNewDemand S links earlier at (demandIn s at))
+    then (checkField s at (demandTag s at) 5 36) (checkNewDemand S links earlier at (demandIn s at))
 
 -- the links end, after one at least, where the file ends or a demand's tag stands
 unfoldable pub linksEnd : List ℕ → ℕ → ℕ → Bool
-linksEnd s at count = ltb 0 count && (eqb at (length s) || eqb (getD s at 0) 3)
+unfolding demandsBegin
+linksEnd s at count = ltb 0 count && (eqb at (length s) || demandsBegin (getD s at 0))
 
 -- the links of a file and the offset behind them, or a refusal
 pub data LinksRead : Type 0 where

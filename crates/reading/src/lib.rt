@@ -4,6 +4,7 @@ use fields::number_in;
 use grid::Band;
 use grid::BandReply;
 use refusal::Refusal;
+use request::Asked;
 use request::Checked;
 use request::Demand;
 use request::Link;
@@ -18,7 +19,7 @@ ghost use lib.IntN.{pos, _-ℤ_};
 ghost use lib.ListN.{length, take, drop};
 ghost use Rattle.request.specs.View.{viewDemand};
 ghost use Rattle.request.specs.Encoding.{signed16};
-ghost use Rattle.reading.specs.Reading.{refused, bandIn, checkBandField, linkIn, checkLinkField, demandIn, checkNewDemand, linksEnd, linksRefused, readLinks, demandsRefused, readDemands, withLinks, readFile};
+ghost use Rattle.reading.specs.Reading.{refused, bandIn, checkBandField, linkIn, checkLinkField, demandTag, askedIn, demandIn, checkNewDemand, linksEnd, linksRefused, readLinks, demandsRefused, readDemands, withLinks, readFile};
 ghost use Rattle.fields.specs.Field.{checkField};
 ghost use Rattle.request.specs.Packing.{padded, packDemand};
 ghost use Rattle.reading.specs.FilePacking.{packReading};
@@ -156,7 +157,7 @@ fn no_links(why: Refusal) -> LinksFound
     }
 }
 
-// The links end, after one at least, where the file ends or a demand's tag stands.
+// The links end, after one at least, where the file ends or a demand's tag stands, 03 or 05.
 fn links_end(file: &[u8], at: usize, count: usize) -> bool
     requires { ⌜ at ≤ length (now file) ⌝ }
     ensures { λ r. ⌜ r ≡ linksEnd (now (file .entry)) at count ⌝ }
@@ -167,7 +168,10 @@ fn links_end(file: &[u8], at: usize, count: usize) -> bool
     if at == file.len() {
         return true;
     }
-    file[at] == 3
+    if file[at] == 3 {
+        return true;
+    }
+    file[at] == 5
 }
 
 // A link's field after `count` links: 2 where the file has ended, 1, 2, 3, then 5: the count, then the ends.
@@ -208,7 +212,7 @@ fn read_demands(
     let mut count = 0;
     let mut at = start;
     while at < file.len() {
-        let header = check_field(file, at, 3, 5, 36);
+        let header = check_field(file, at, demand_tag(file, at), 5, 36);
         if let Checked::Refused(why) = header {
             return no_demands(why);
         }
@@ -241,7 +245,7 @@ fn no_demands(why: Refusal) -> DemandsFound
 }
 
 // A demand read at an offset after demands of these idents: which of its tests is told first in a file is decided here alone: 6, 8,
-// 9, 7.
+// 21, 9, 7.
 fn check_new_demand(
     demand: Demand,
     at: usize,
@@ -258,6 +262,9 @@ fn check_new_demand(
     }
     if tests.used {
         return Checked::Refused(Refusal::IdentUsed(at));
+    }
+    if !tests.rate {
+        return Checked::Refused(Refusal::UnknownRate(at));
     }
     if !tests.width {
         return Checked::Refused(Refusal::BadWidth(at));
@@ -278,15 +285,34 @@ fn link_in(file: &[u8], at: usize) -> Link
     }
 }
 
+// The tag that a demand's field must have: 05 where it stands there, else 03.
+fn demand_tag(file: &[u8], at: usize) -> u8
+    requires { ⌜ at < length (now file) ⌝ }
+    ensures { λ r. ⌜ r ≡ demandTag (now (file .entry)) at ⌝ }
+{
+    if file[at] == 5 { 5 } else { 3 }
+}
+
+// What the number in a demand's field asks for.
+fn asked_in(tag: u8, number: u16) -> Asked
+    ensures { λ r. ⌜ r ≡ askedIn tag number ⌝ }
+{
+    if tag == 5 {
+        Asked::Rate(number)
+    } else {
+        Asked::Width(number)
+    }
+}
+
 fn demand_in(file: &[u8], at: usize) -> Demand
-    requires { ⌜ checkField (now file) at 3 5 36 ≡ Checked.Sound ⌝ }
+    requires { ⌜ checkField (now file) at (demandTag (now file) at) 5 36 ≡ Checked.Sound ⌝ }
     ensures { λ r. ⌜ r ≡ packDemand (demandIn (now (file .entry)) at) ⌝ }
 {
     let hops = number_in(file, at + 1) as usize - 4;
     let links = route_in(file, at + 7, hops);
     Demand {
         ident: number_in(file, at + 3),
-        width: number_in(file, at + 5),
+        asked: asked_in(file[at], number_in(file, at + 5)),
         hops,
         links,
     }

@@ -1,9 +1,9 @@
 -- What each refusal means: its number and its place. Every promise that speaks of a refusal speaks through these two.
 use Prim.Native.Nat.{ℕ}
 use Rattle.refusal.specs.declared.Refusal.{Refusal}
-use Rattle.refusal.specs.declared.Refusal.the-variants.{PastEnd, WrongTag, WrongLength, BandOutside, BadLink, TooManyDemands, BadRoute, IdentUsed, BadWidth, BufferShort, TooManyToSearch, NotAnOrder, NoStart, UnknownIdent, IdentSeen, NoRow, EndAbove, Clash, NoBlock, FileTooLong}
+use Rattle.refusal.specs.declared.Refusal.the-variants.{PastEnd, WrongTag, WrongLength, BandOutside, BadLink, TooManyDemands, BadRoute, IdentUsed, BadWidth, BufferShort, TooManyToSearch, NotAnOrder, NoStart, UnknownIdent, IdentSeen, NoRow, EndAbove, Clash, NoBlock, FileTooLong, UnknownRate}
 
--- the number of the fault, 1 to 20
+-- the number of the fault, 1 to 21
 abbrev pub numberOf : Refusal → ℕ
 numberOf (PastEnd place) = 1
 numberOf (WrongTag place) = 2
@@ -25,6 +25,7 @@ numberOf (EndAbove place) = 17
 numberOf (Clash place) = 18
 numberOf (NoBlock place) = 19
 numberOf (FileTooLong place) = 20
+numberOf (UnknownRate place) = 21
 
 -- the place where it was found
 abbrev pub placeOf : Refusal → ℕ
@@ -48,3 +49,4 @@ placeOf (EndAbove place) = place
 placeOf (Clash place) = place
 placeOf (NoBlock place) = place
 placeOf (FileTooLong place) = place
+placeOf (UnknownRate place) = place

@@ -45,10 +45,12 @@ pub enum Refusal {
     NoBlock(usize),
     // 20: a file above its limit; the place is the limit.
     FileTooLong(usize),
+    // 21: a bit rate that is not in the table.
+    UnknownRate(usize),
 }
 
 impl Refusal {
-    // The fault's number, 1 to 20.
+    // The fault's number, 1 to 21.
     pub fn number(self) -> u8
         ensures { λ r. ⌜ r ≡ numberOf self ⌝ }
     {
@@ -73,6 +75,7 @@ impl Refusal {
             Refusal::Clash(_) => 18,
             Refusal::NoBlock(_) => 19,
             Refusal::FileTooLong(_) => 20,
+            Refusal::UnknownRate(_) => 21,
         }
     }
 
@@ -101,6 +104,7 @@ impl Refusal {
             Refusal::Clash(place) => place,
             Refusal::NoBlock(place) => place,
             Refusal::FileTooLong(place) => place,
+            Refusal::UnknownRate(place) => place,
         }
     }
 }

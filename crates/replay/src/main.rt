@@ -15,7 +15,7 @@ mod numbers;
 mod raw;
 mod say;
 
-// Room for the longest body that the calls' own formats allow, 138,613 bytes, and then some.
+// Room for the longest body that the calls' own formats allow, 138,813 bytes, and then some.
 fn body_room() -> [u8; 139264]
     ensures { λ r. ⌜ 139264 ≡ length r ⌝ }
 {

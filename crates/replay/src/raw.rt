@@ -5,6 +5,7 @@ use crate::numbers::next;
 use crate::numbers::signed_two;
 use crate::numbers::two_at;
 use grid::Band;
+use request::Asked;
 use request::Demand;
 use request::Link;
 use request::Request;
@@ -87,10 +88,20 @@ fn demands_at(body: &[u8], at: usize, count: usize) -> RawDemands {
             return RawDemands { demands, end };
         }
         demands[k] = demand_at(body, end);
-        end = next(next(end, 5), links_held(body, end));
+        end = demand_end(body, end);
         k += 1;
     }
     RawDemands { demands, end }
+}
+
+// The position behind the demand at this one. Where no demand's tag stands, it lies behind any body.
+fn demand_end(body: &[u8], at: usize) -> usize {
+    let tag = byte_at(body, at);
+    if tag == 3 || tag == 5 {
+        next(next(at, 6), links_held(body, at))
+    } else {
+        usize::MAX
+    }
 }
 
 fn demand_at(body: &[u8], at: usize) -> Demand {
@@ -98,14 +109,24 @@ fn demand_at(body: &[u8], at: usize) -> Demand {
     let held = links_held(body, at);
     let mut k = 0;
     while k < held {
-        links[k] = byte_at(body, next(next(at, 5), k));
+        links[k] = byte_at(body, next(next(at, 6), k));
         k += 1;
     }
+    let number = two_at(body, next(at, 3));
     Demand {
-        ident: two_at(body, at),
-        width: two_at(body, next(at, 2)),
-        hops: byte_at(body, next(at, 4)) as usize,
+        ident: two_at(body, next(at, 1)),
+        asked: asked_for(byte_at(body, at), number),
+        hops: byte_at(body, next(at, 5)) as usize,
         links,
+    }
+}
+
+// What is asked for under a tag: a rate under 05, else a width.
+fn asked_for(tag: u8, number: u16) -> Asked {
+    if tag == 5 {
+        Asked::Rate(number)
+    } else {
+        Asked::Width(number)
     }
 }
 
@@ -113,7 +134,7 @@ fn demand_at(body: &[u8], at: usize) -> Demand {
 fn links_held(body: &[u8], at: usize) -> usize
     ensures { λ r. ⌜ r ≤ 32 ⌝ }
 {
-    let hops = byte_at(body, next(at, 4)) as usize;
+    let hops = byte_at(body, next(at, 5)) as usize;
     if hops < Request::MOST_HOPS {
         hops
     } else {

@@ -16,7 +16,7 @@ use Rattle.theory.specs.Orders.{countUp, listing}
 use Rattle.theory.specs.ListingLaws.{listing-mem, listing-length}
 use Rattle.request.specs.declared.Request.{Request}
 use Rattle.request.specs.declared.Checked.the-variants as checked
-use Rattle.request.specs.View.{View, view, demandAt}
+use Rattle.request.specs.View.{View, view, demandAt, widthOf}
 use Rattle.request.specs.Check.{check}
 use Rattle.request.specs.Whole.{Whole}
 use Rattle.request.specs.Sound.{SoundRequest}
@@ -41,7 +41,7 @@ use Rattle.report.specs.Printed.{rowOf, rowsAt}
 
 module _ (v : View) (starts : List ℕ) (sound : SoundRequest v) (counted : length (v .demands) ≡ v .demandCount)
     (room : v .demandCount ≤ length starts)
-    (within : (k : ℕ) → k < v .demandCount → getD starts k 0 + demandAt (v .demands) k .width ≤ v .band .slots) where
+    (within : (k : ℕ) → k < v .demandCount → getD starts k 0 + widthOf (demandAt (v .demands) k) ≤ v .band .slots) where
   -- the rows from a listing position on
   rows-from : (n k : ℕ) → k + n ≡ v .demandCount → rows (v .band) (drop k (v .demands)) (drop k starts) ≡ rowsAt v starts (countUp n k)
   unfolding rows rowsAt rowOf countUp

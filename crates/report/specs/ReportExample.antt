@@ -6,7 +6,7 @@ use Rattle.theory.specs.Search as theory
 use Rattle.theory.specs.Orders.{listing}
 use Rattle.theory.specs.Problem as problem
 use Rattle.grid.specs.Grid.{frequencyReply}
-use Rattle.request.specs.View.{view}
+use Rattle.request.specs.View.{view, askedWidth, widthOf}
 use Rattle.reading.specs.Reading.{readFile}
 use Rattle.reading.specs.FilePacking.{packReading}
 use Rattle.request.specs.Sharing.{problemOf}
@@ -44,5 +44,5 @@ fourth = 51 ∷ 48 ∷ 32 ∷ 48 ∷ 32 ∷ 51 ∷ 32 ∷ 45 ∷ 50 ∷ 56 ∷ 4
 
 -- what is printed for R, to the byte
 pub R-printed : reportText R ≡ first ++ (second ++ (third ++ fourth))
-unfolding reportText readText requestText replyText twentyZeros answerText wordOf outcomeEnd planText rows demandRow centredRow answerLine rowLine named namedSigned decimal decimalSigned finished-word end-name bound-name steps-name reached-name ruled-name space newline readFile packReading view searchReply buffersAfter frequencyReply theory.search boundOf listing problem.top problem.place problem.lowest problem.past problemOf problem.fits problem.startIn
+unfolding reportText readText widthOf askedWidth requestText replyText twentyZeros answerText wordOf outcomeEnd planText rows demandRow centredRow answerLine rowLine named namedSigned decimal decimalSigned finished-word end-name bound-name steps-name reached-name ruled-name space newline readFile packReading view searchReply buffersAfter frequencyReply theory.search boundOf listing problem.top problem.place problem.lowest problem.past problemOf problem.fits problem.startIn
 R-printed = refl

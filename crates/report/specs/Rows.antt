@@ -5,7 +5,7 @@ use Rattle.grid.specs.declared.Band.{Band}
 use Rattle.grid.specs.declared.FrequencyReply.{FrequencyReply}
 use Rattle.grid.specs.declared.FrequencyReply.the-variants.{Centred, Refused}
 use Rattle.grid.specs.Grid.{frequencyReply}
-use Rattle.request.specs.View.{DemandView}
+use Rattle.request.specs.View.{DemandView, widthOf}
 use Rattle.report.specs.Lines.{rowLine}
 
 -- the row of a block with its central number and frequency; what is no block of the band has no row
@@ -16,7 +16,7 @@ centredRow ident start end (Refused why) = []
 -- the row of a demand that starts at a slot of the band
 unfoldable pub demandRow : Band → DemandView → ℕ → List ℕ
 demandRow band d start =
-    centredRow (d .ident) start (start + d .width) (frequencyReply band start (d .width))
+    centredRow (d .ident) start (start + widthOf d) (frequencyReply band start (widthOf d))
 
 -- the rows of demands and their starts, both in listing order
 unfoldable pub rows : Band → List DemandView → List ℕ → List ℕ

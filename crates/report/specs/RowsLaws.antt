@@ -18,7 +18,7 @@ use Rattle.grid.specs.ReplyLaws.{frequency-centred}
 use Rattle.grid.specs.GridLaws.{centres}
 use Rattle.grid.specs.SignedLaws.{mag-sum, mag-6250}
 use Rattle.request.specs.declared.Request.{Request}
-use Rattle.request.specs.View.{DemandView, View, view, viewDemand, demandAt, noDemand, noEntry}
+use Rattle.request.specs.View.{DemandView, View, view, viewDemand, demandAt, noDemand, noEntry, widthOf}
 use Rattle.request.specs.Sound.{SoundRequest}
 use Rattle.request.specs.ViewLaws.{demands-shown, demand-shown}
 use Rattle.report.specs.declared.Page.{Page}
@@ -48,16 +48,16 @@ unfolding rows demandAt
 rows-turn band demands starts k h g = rw (drop-cons demands k noDemand h, drop-cons starts k 0 g, add-one k)
 
 -- a demand's row is that of its block, and at most 39 bytes long
-pub row-centred : (band : Band) (d : DemandView) (start : ℕ) (f : Frequency) → frequencyReply band start (d .width) ≡ Centred f →
-    demandRow band d start ≡ rowLine (d .ident) start (start + d .width) (f .n) (f .mhz)
+pub row-centred : (band : Band) (d : DemandView) (start : ℕ) (f : Frequency) → frequencyReply band start (widthOf d) ≡ Centred f →
+    demandRow band d start ≡ rowLine (d .ident) start (start + widthOf d) (f .n) (f .mhz)
 unfolding demandRow centredRow
-row-centred band d start f h = ap (centredRow (d .ident) start (start + d .width)) h
+row-centred band d start f h = ap (centredRow (d .ident) start (start + widthOf d)) h
 
 -- without a block there is no row
-pub row-none : (band : Band) (d : DemandView) (start : ℕ) (why : Refusal) → frequencyReply band start (d .width) ≡ Refused why →
+pub row-none : (band : Band) (d : DemandView) (start : ℕ) (why : Refusal) → frequencyReply band start (widthOf d) ≡ Refused why →
     demandRow band d start ≡ []
 unfolding demandRow centredRow
-row-none band d start why h = ap (centredRow (d .ident) start (start + d .width)) h
+row-none band d start why h = ap (centredRow (d .ident) start (start + widthOf d)) h
 
 -- the row at a listing position is put on, and those behind it are left
 pub row-on : {after : Page} (r : Request) (starts : List ℕ) (k : ℕ) (page : Page) → length (r .demands) ≡ 200 → length starts ≡ 20 →
@@ -80,15 +80,15 @@ unfolding rows
 rows-done r starts k h = rw (drop-of-length-le (view r .demands) {i = k} (omega (arith, demands-shown r)))
 
 -- in a sound request a demand whose end is within the band has its row, with its central number and frequency
-pub row-stands : (v : View) (k start : ℕ) → SoundRequest v → k < v .demandCount → start + demandAt (v .demands) k .width ≤ v .band .slots →
+pub row-stands : (v : View) (k start : ℕ) → SoundRequest v → k < v .demandCount → start + widthOf (demandAt (v .demands) k) ≤ v .band .slots →
     demandRow (v .band) (demandAt (v .demands) k) start
-    ≡ rowLine (demandAt (v .demands) k .ident) start (start + demandAt (v .demands) k .width)
-    (centralNumber (v .band .n0) start (demandAt (v .demands) k .width)) (centralMHz (centralNumber (v .band .n0) start (demandAt (v .demands) k .width)))
+    ≡ rowLine (demandAt (v .demands) k .ident) start (start + widthOf (demandAt (v .demands) k))
+    (centralNumber (v .band .n0) start (widthOf (demandAt (v .demands) k))) (centralMHz (centralNumber (v .band .n0) start (widthOf (demandAt (v .demands) k))))
 row-stands v k start sound h within =
     let d = demandAt (v .demands) k in
     let good = sound .demands-sound k h in
     let S = v .band .slots in
-    row-centred (v .band) d start (frequencyOf (v .band .n0) start (d .width))
-    (frequency-centred (v .band) start (d .width) (sound .band-allowed)
-    (rw (le-leb 1 (d .width) (good .some-width), le-leb (d .width) S (good .width-in-band)))
-    (le-leb (start + d .width) S within))
+    row-centred (v .band) d start (frequencyOf (v .band .n0) start (widthOf d))
+    (frequency-centred (v .band) start (widthOf d) (sound .band-allowed)
+    (rw (le-leb 1 (widthOf d) (good .some-width), le-leb (widthOf d) S (good .width-in-band)))
+    (le-leb (start + widthOf d) S within))

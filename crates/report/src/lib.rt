@@ -7,6 +7,7 @@ use refusal::Refusal;
 use request::Checked;
 use request::Demand;
 use request::Request;
+use request::width_of;
 use search::Answer;
 use search::Outcome;
 use search::SearchReply;
@@ -168,7 +169,7 @@ fn put_row(page: Page, band: Band, demand: Demand, start: u16) -> Page
     ensures { λ r. ⌜ r .len ≤ page .len + 39 ⌝ }
 {
     let ident = demand.ident;
-    let width = demand.width;
+    let width = width_of(demand);
     let end = start as u32 + width as u32;
     match to_frequency(band, start, width) {
         FrequencyReply::Centred(centre) => put_row_line(

@@ -5,13 +5,15 @@ use mathlib.Core.List.{List, [], _∷_, _++_}
 use lib.ListN.{length}
 use lib.Dec.{leb, ltb, eqb}
 use Rattle.refusal.specs.declared.Refusal.{Refusal}
-use Rattle.refusal.specs.declared.Refusal.the-variants.{WrongTag, WrongLength, BandOutside, BadLink, TooManyDemands, BadRoute, IdentUsed, BadWidth}
+use Rattle.refusal.specs.declared.Refusal.the-variants.{WrongTag, WrongLength, BandOutside, BadLink, TooManyDemands, BadRoute, IdentUsed, BadWidth, UnknownRate}
 use Rattle.grid.specs.declared.Band.{Band}
 use Rattle.grid.specs.Grid.{allowedBand, allowedWidth}
 use Rattle.request.specs.declared.Link.{Link}
 use Rattle.request.specs.declared.Checked.{Checked}
 use Rattle.request.specs.declared.Checked.the-variants.{Sound, Refused}
-use Rattle.request.specs.View.{DemandView, View, linkAt}
+use Rattle.request.specs.declared.Asked.{Asked}
+use Rattle.request.specs.declared.Asked.the-variants.{Width, Rate}
+use Rattle.request.specs.View.{DemandView, View, linkAt, tableRates, widthOf}
 
 -- a check, and where it passes the next
 unfoldable pub then : Checked → Checked → Checked
@@ -73,14 +75,21 @@ checkLinks k (l ∷ links) = then (cond (eqb (l .from) (l .to)) (Refused (BadLin
 unfoldable pub checkLinkCount : ℕ → Checked
 checkLinkCount count = cond (ltb 64 count) (Refused (BadLink 64)) Sound
 
--- one demand at its listing position, after demands of these idents: 8, 9, 3, 7
+-- what is asked for is a width, or one of the rates in the table
+unfoldable pub knownAsked : Asked → Bool
+unfolding has
+knownAsked (Width w) = true
+knownAsked (Rate r) = has r tableRates
+
+-- one demand at its listing position, after demands of these idents: 8, 21, 9, 3, 7
 unfoldable pub checkDemand : ℕ → List Link → List ℕ → ℕ → DemandView → Checked
-unfolding then has allowedHops soundRoute
+unfolding then has knownAsked allowedHops soundRoute
 checkDemand S links earlier k d =
     then (cond (has (d .ident) earlier) (Refused (IdentUsed k)) Sound)
-    (then (cond (allowedWidth S (d .width)) Sound (Refused (BadWidth k)))
+    (then (cond (knownAsked (d .asked)) Sound (Refused (UnknownRate k)))
+    (then (cond (allowedWidth S (widthOf d)) Sound (Refused (BadWidth k)))
     (then (cond (allowedHops (d .hops)) Sound (Refused (WrongLength k)))
-    (cond (soundRoute links (d .route)) Sound (Refused (BadRoute k)))))
+    (cond (soundRoute links (d .route)) Sound (Refused (BadRoute k))))))
 
 -- the demands one by one
 unfoldable pub checkDemands : ℕ → List Link → List ℕ → ℕ → List DemandView → Checked

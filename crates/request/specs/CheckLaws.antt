@@ -11,7 +11,7 @@ use lib.ListN.{length, take, drop, drop-of-length-le}
 use lib.Seq.{drop-cons}
 use lib.Dec.{leb, ltb, eqb}
 use Rattle.refusal.specs.declared.Refusal.{Refusal}
-use Rattle.refusal.specs.declared.Refusal.the-variants.{WrongTag, WrongLength, BandOutside, BadLink, TooManyDemands, BadRoute, IdentUsed, BadWidth}
+use Rattle.refusal.specs.declared.Refusal.the-variants.{WrongTag, WrongLength, BandOutside, BadLink, TooManyDemands, BadRoute, IdentUsed, BadWidth, UnknownRate}
 use Rattle.grid.specs.declared.Band.{Band}
 use Rattle.grid.specs.Grid.{allowedBand, allowedWidth}
 use Rattle.request.specs.declared.Link.{Link}
@@ -20,9 +20,9 @@ use Rattle.request.specs.declared.DemandTests.{DemandTests}
 use Rattle.request.specs.declared.Request.{Request}
 use Rattle.request.specs.declared.Checked.{Checked}
 use Rattle.request.specs.declared.Checked.the-variants.{Sound, Refused}
-use Rattle.request.specs.View.{DemandView, linkAt, noLink, demandAt, noDemand, viewDemand, view}
+use Rattle.request.specs.View.{DemandView, linkAt, noLink, demandAt, noDemand, viewDemand, view, widthOf}
 use Rattle.theory.specs.TestLaws.{by-test, and-first, and-second}
-use Rattle.request.specs.Check.{then, has, soundRoute, allowedHops, checkBand, checkSomeLink, checkLinks, checkLinkCount, checkDemand, checkDemands, checkDemandCount, check, must}
+use Rattle.request.specs.Check.{then, has, soundRoute, allowedHops, checkBand, checkSomeLink, checkLinks, checkLinkCount, checkDemand, checkDemands, checkDemandCount, check, must, knownAsked}
 use Rattle.request.specs.DemandTest.{demandTests}
 
 -- after a check that passes comes the next
@@ -148,32 +148,38 @@ pub ident-refused : (S : ℕ) (links : List Link) (earlier : List ℕ) (k : ℕ)
 unfolding checkDemand then
 ident-refused S links earlier k d used = rw used
 
+-- then a rate that is not in the table with 21
+pub rate-refused : (S : ℕ) (links : List Link) (earlier : List ℕ) (k : ℕ) (d : DemandView) →
+    has (d .ident) earlier ≡ false → knownAsked (d .asked) ≡ false → checkDemand S links earlier k d ≡ Refused (UnknownRate k)
+unfolding checkDemand then
+rate-refused S links earlier k d new unknown = rw (new, unknown)
+
 -- then a width outside the band with 9
 pub width-refused : (S : ℕ) (links : List Link) (earlier : List ℕ) (k : ℕ) (d : DemandView) →
-    has (d .ident) earlier ≡ false → allowedWidth S (d .width) ≡ false → checkDemand S links earlier k d ≡ Refused (BadWidth k)
+    has (d .ident) earlier ≡ false → knownAsked (d .asked) ≡ true → allowedWidth S (widthOf d) ≡ false → checkDemand S links earlier k d ≡ Refused (BadWidth k)
 unfolding checkDemand then
-width-refused S links earlier k d new outside = rw (new, outside)
+width-refused S links earlier k d new known outside = rw (new, known, outside)
 
 -- then a route of no or too many links with 3
 pub hops-refused : (S : ℕ) (links : List Link) (earlier : List ℕ) (k : ℕ) (d : DemandView) →
-    has (d .ident) earlier ≡ false → allowedWidth S (d .width) ≡ true → allowedHops (d .hops) ≡ false →
+    has (d .ident) earlier ≡ false → knownAsked (d .asked) ≡ true → allowedWidth S (widthOf d) ≡ true → allowedHops (d .hops) ≡ false →
     checkDemand S links earlier k d ≡ Refused (WrongLength k)
 unfolding checkDemand then
-hops-refused S links earlier k d new width hops = rw (new, width, hops)
+hops-refused S links earlier k d new known width hops = rw (new, known, width, hops)
 
 -- then an unsound route with 7
 pub route-refused : (S : ℕ) (links : List Link) (earlier : List ℕ) (k : ℕ) (d : DemandView) →
-    has (d .ident) earlier ≡ false → allowedWidth S (d .width) ≡ true → allowedHops (d .hops) ≡ true →
+    has (d .ident) earlier ≡ false → knownAsked (d .asked) ≡ true → allowedWidth S (widthOf d) ≡ true → allowedHops (d .hops) ≡ true →
     soundRoute links (d .route) ≡ false → checkDemand S links earlier k d ≡ Refused (BadRoute k)
 unfolding checkDemand then
-route-refused S links earlier k d new width hops route = rw (new, width, hops, route)
+route-refused S links earlier k d new known width hops route = rw (new, known, width, hops, route)
 
 -- a demand with none of these faults passes
 pub demand-passes : (S : ℕ) (links : List Link) (earlier : List ℕ) (k : ℕ) (d : DemandView) →
-    has (d .ident) earlier ≡ false → allowedWidth S (d .width) ≡ true → allowedHops (d .hops) ≡ true →
+    has (d .ident) earlier ≡ false → knownAsked (d .asked) ≡ true → allowedWidth S (widthOf d) ≡ true → allowedHops (d .hops) ≡ true →
     soundRoute links (d .route) ≡ true → checkDemand S links earlier k d ≡ Sound
 unfolding checkDemand then
-demand-passes S links earlier k d new width hops route = rw (new, width, hops, route)
+demand-passes S links earlier k d new known width hops route = rw (new, known, width, hops, route)
 
 -- the demands from a position on: the one there, then those behind it
 demands-turn : (S : ℕ) (links : List Link) (earlier : List ℕ) (demands : List DemandView) (k : ℕ) → k < length demands →

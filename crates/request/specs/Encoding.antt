@@ -6,6 +6,8 @@ use lib.ListN.{length}
 use lib.IntN.{ℤ, pos, negsuc, _-ℤ_}
 use lib.Dec.{ltb}
 use Rattle.grid.specs.declared.Band.{Band}
+use Rattle.request.specs.declared.Asked.{Asked}
+use Rattle.request.specs.declared.Asked.the-variants.{Width, Rate}
 use Rattle.request.specs.declared.Link.{Link}
 use Rattle.request.specs.View.{DemandView, View}
 
@@ -37,10 +39,20 @@ unfoldable pub linkField : Link → List ℕ
 unfolding field
 linkField l = field 2 (l .from ∷ l .to ∷ [])
 
--- 03: a demand's ident, width and link numbers
+-- the tag of a demand's field: 03 for one by its width, 05 for one by its rate
+unfoldable pub tagOf : Asked → ℕ
+tagOf (Width w) = 3
+tagOf (Rate r) = 5
+
+-- the number in it: the width, or the rate
+unfoldable pub numberAsked : Asked → ℕ
+numberAsked (Width w) = w
+numberAsked (Rate r) = r
+
+-- 03 or 05: a demand's ident, width or rate, and link numbers
 unfoldable pub demandField : DemandView → List ℕ
-unfolding field twoBytes
-demandField d = field 3 (twoBytes (d .ident) ++ (twoBytes (d .width) ++ d .route))
+unfolding field twoBytes tagOf numberAsked
+demandField d = field (tagOf (d .asked)) (twoBytes (d .ident) ++ (twoBytes (numberAsked (d .asked)) ++ d .route))
 
 -- the fields of all links, one after the other
 unfoldable pub linkFields : List Link → List ℕ

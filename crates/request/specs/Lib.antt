@@ -18,6 +18,7 @@ pub mod RoundTrip
 pub mod Packing
 pub mod PackingLaws
 pub mod Sharing
+pub mod RateLaws
 pub mod Told
 pub mod ToldLaws
 pub mod inner

@@ -6,6 +6,7 @@ use lib.IntN.{pos}
 use Rattle.request.specs.declared.Demand.{Demand}
 use Rattle.request.specs.declared.Request.{Request}
 use Rattle.request.specs.View.{DemandView, View, noLink}
+use Rattle.request.specs.declared.Asked.the-variants.{Width}
 
 -- a list made as long as an array by an empty entry
 unfoldable pub padded : {A : Type 0} → ℕ → A → List A → List A
@@ -13,7 +14,7 @@ padded size empty xs = xs ++ replicate (size - length xs) empty
 
 -- the empty demand: every number 0
 unfoldable pub emptyDemand : Demand
-emptyDemand = record { ident = 0; width = 0; hops = 0; links = replicate 32 0 }
+emptyDemand = record { ident = 0; asked = Width 0; hops = 0; links = replicate 32 0 }
 
 -- the empty request, which stands beside a refusal: nothing in it, every number 0
 unfoldable pub emptyRequest : Request
@@ -30,7 +31,7 @@ emptyRequest =
 -- a demand with its route in an array
 unfoldable pub packDemand : DemandView → Demand
 unfolding padded
-packDemand d = record { ident = d .ident; width = d .width; hops = d .hops; links = padded 32 0 (d .route) }
+packDemand d = record { ident = d .ident; asked = d .asked; hops = d .hops; links = padded 32 0 (d .route) }
 
 -- a request with its links and its demands in arrays
 unfoldable pub pack : View → Request

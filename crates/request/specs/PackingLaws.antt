@@ -36,7 +36,7 @@ module _ {A : Type 0} (size : ℕ) (empty : A) where
 pub view-packed : (d : DemandView) → length (d .route) ≡ d .hops → viewDemand (packDemand d) ≡ d
 unfolding viewDemand packDemand
 view-packed d counted =
-    ap (λ (route : List ℕ). record { ident = d .ident; width = d .width; hops = d .hops; route = route })
+    ap (λ (route : List ℕ). record { ident = d .ident; asked = d .asked; hops = d .hops; route = route })
     (ap (λ (n : ℕ). take n (padded 32 0 (d .route))) (sym counted) ∙ take-padded 32 0 (d .route))
 
 -- one byte more of a route

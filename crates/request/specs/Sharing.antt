@@ -3,7 +3,7 @@ use Prim.Native.Nat.{ℕ}
 use mathlib.Core.Bool.{Bool, false, _||_}
 use mathlib.Core.List.{List, [], _∷_}
 use Rattle.theory.specs.Problem.{Problem}
-use Rattle.request.specs.View.{View, demandAt}
+use Rattle.request.specs.View.{View, demandAt, widthOf}
 use Rattle.request.specs.Check.{has}
 
 -- two routes share a link
@@ -17,7 +17,7 @@ unfoldable pub problemOf : View → Problem
 unfolding shareLink demandAt
 problemOf v =
     record {
-      width = λ i. demandAt (v .demands) i .width;
+      width = λ i. widthOf (demandAt (v .demands) i);
       joined = λ i j. shareLink (demandAt (v .demands) i .route) (demandAt (v .demands) j .route);
       gap = λ i j. v .band .guard;
     }

@@ -6,13 +6,16 @@ use mathlib.Core.Path.{_≡_}
 use lib.ListN.{getD}
 use Rattle.grid.specs.Grid.{allowedBand}
 use Rattle.request.specs.declared.Link.{Link}
-use Rattle.request.specs.View.{DemandView, View, linkAt, demandAt}
+use Rattle.request.specs.View.{DemandView, View, linkAt, demandAt, widthOf}
+use Rattle.request.specs.Check.{knownAsked}
 
 -- a demand that a band of S slots with these links can be asked for
 pub record SoundDemand (S linkCount : ℕ) (link : ℕ → Link) (d : DemandView) : Type 0 where
+  -- what it asks for is a width, or one of the rates in the table
+  pub asked-known : knownAsked (d .asked) ≡ true
   -- its width is 1 to S
-  pub some-width : 1 ≤ d .width
-  pub width-in-band : d .width ≤ S
+  pub some-width : 1 ≤ widthOf d
+  pub width-in-band : widthOf d ≤ S
   -- its route has 1 to 32 links
   pub some-hop : 1 ≤ d .hops
   pub at-most-32-hops : d .hops ≤ 32

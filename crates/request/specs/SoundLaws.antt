@@ -10,14 +10,14 @@ use lib.ListN.{length, take, getD, List·getD-eq-default}
 use lib.Seq.{length-take-le}
 use lib.Dec.{leb, ltb, eqb}
 use Rattle.refusal.specs.declared.Refusal.{Refusal}
-use Rattle.refusal.specs.declared.Refusal.the-variants.{WrongTag, WrongLength, BandOutside, BadLink, TooManyDemands, BadRoute, IdentUsed, BadWidth}
+use Rattle.refusal.specs.declared.Refusal.the-variants.{WrongTag, WrongLength, BandOutside, BadLink, TooManyDemands, BadRoute, IdentUsed, BadWidth, UnknownRate}
 use Rattle.grid.specs.Grid.{allowedBand, allowedWidth}
 use Rattle.request.specs.declared.Link.{Link}
 use Rattle.request.specs.declared.Request.{Request}
 use Rattle.request.specs.declared.Checked.{Checked}
 use Rattle.request.specs.declared.Checked.the-variants.{Sound, Refused}
-use Rattle.request.specs.View.{DemandView, View, view, viewDemand, linkAt, demandAt, noEntry, noDemand, idents}
-use Rattle.request.specs.Check.{then, has, soundRoute, allowedHops, checkBand, checkSomeLink, checkLinks, checkLinkCount, checkDemand, checkDemands, checkDemandCount, check}
+use Rattle.request.specs.View.{DemandView, View, view, viewDemand, linkAt, demandAt, noEntry, noDemand, idents, widthOf, askedWidth}
+use Rattle.request.specs.Check.{then, has, soundRoute, allowedHops, checkBand, checkSomeLink, checkLinks, checkLinkCount, checkDemand, checkDemands, checkDemandCount, check, knownAsked}
 use Rattle.request.specs.Sound.{SoundDemand, SoundRequest}
 use Rattle.request.specs.inner.Route.{RouteHolds}
 use Rattle.request.specs.inner.Passes.{Passes}
@@ -70,14 +70,17 @@ pub sound-passes : (S : ℕ) (links : List Link) (earlier : List ℕ) (i : ℕ) 
 unfolding checkDemand
 sound-passes S links earlier i d sound =
     let ident = cond (has (d .ident) earlier) (Refused (IdentUsed i)) Sound in
-    let width = cond (allowedWidth S (d .width)) Sound (Refused (BadWidth i)) in
+    let rate = cond (knownAsked (d .asked)) Sound (Refused (UnknownRate i)) in
+    let width = cond (allowedWidth S (widthOf d)) Sound (Refused (BadWidth i)) in
     let hops = cond (allowedHops (d .hops)) Sound (Refused (WrongLength i)) in
     let route = cond (soundRoute links (d .route)) Sound (Refused (BadRoute i)) in
-    let from-width : then width (then hops route) ≡ Sound = next-sound ident (then width (then hops route)) sound in
+    let from-rate : then rate (then width (then hops route)) ≡ Sound = next-sound ident (then rate (then width (then hops route))) sound in
+    let from-width : then width (then hops route) ≡ Sound = next-sound rate (then width (then hops route)) from-rate in
     let from-hops : then hops route ≡ Sound = next-sound width (then hops route) from-width in
     record {
-      ident-new = not-refused (has (d .ident) earlier) (IdentUsed i) (first-sound ident (then width (then hops route)) sound);
-      width-allowed = passed (allowedWidth S (d .width)) (BadWidth i) (first-sound width (then hops route) from-width);
+      ident-new = not-refused (has (d .ident) earlier) (IdentUsed i) (first-sound ident (then rate (then width (then hops route))) sound);
+      asked-known = passed (knownAsked (d .asked)) (UnknownRate i) (first-sound rate (then width (then hops route)) from-rate);
+      width-allowed = passed (allowedWidth S (widthOf d)) (BadWidth i) (first-sound width (then hops route) from-width);
       hops-allowed = passed (allowedHops (d .hops)) (WrongLength i) (first-sound hops route from-hops);
       route-sound = passed (soundRoute links (d .route)) (BadRoute i) (next-sound hops route from-hops);
     }
@@ -106,7 +109,7 @@ each-demands S links earlier i [] each = refl
 each-demands S links earlier i (d ∷ demands) each =
     let here : Passes S links earlier d = rw (append-nil earlier) at (each 0 (omega arith)) in
     then-sound (checkDemand S links earlier i d) (checkDemands S links (earlier ++ (d .ident ∷ [])) (i + 1) demands)
-    (demand-passes S links earlier i d (here .ident-new) (here .width-allowed) (here .hops-allowed) (here .route-sound)) ∙
+    (demand-passes S links earlier i d (here .ident-new) (here .asked-known) (here .width-allowed) (here .hops-allowed) (here .route-sound)) ∙
     each-demands S links (earlier ++ (d .ident ∷ [])) (i + 1) demands
     (λ (k : ℕ) (h : k < length demands).
     rw (append-assoc earlier (d .ident ∷ []) (take k (idents demands))) (each (suc k) (omega arith)))
@@ -120,11 +123,12 @@ passes-sound : (S count : ℕ) (links : List Link) (earlier : List ℕ) (d : Dem
     (d .hops ≤ 32 → length (d .route) ≡ d .hops) → Passes S links earlier d → SoundDemand S count (linkAt links) d
 passes-sound S count links earlier d all routed pass =
     let hops = hops-allowed (d .hops) (pass .hops-allowed) in
-    let width = width-allowed S (d .width) (pass .width-allowed) in
+    let width = width-allowed S (widthOf d) (pass .width-allowed) in
     let size : length (d .route) ≡ d .hops = routed (hops .1) in
     let holds : RouteHolds count (linkAt links) (d .route) (d .hops)
     = rw (all, size) at (sound-holds links (d .route) (pass .route-sound)) in
     record {
+      asked-known = pass .asked-known;
       some-width = width .0;
       width-in-band = width .1;
       some-hop = hops .0;
@@ -145,8 +149,9 @@ sound-demand-passes S count links earlier d all routed new sound =
     = record { each-listed = sound .links-listed; none-twice = sound .links-once; no-gap = sound .no-break } in
     record {
       ident-new = new;
+      asked-known = sound .asked-known;
       width-allowed =
-          and-both (leb 1 (d .width)) (leb (d .width) S) (le-leb 1 (d .width) (sound .some-width)) (le-leb (d .width) S (sound .width-in-band));
+          and-both (leb 1 (widthOf d)) (leb (widthOf d) S) (le-leb 1 (widthOf d) (sound .some-width)) (le-leb (widthOf d) S (sound .width-in-band));
       hops-allowed =
           and-both (leb 1 (d .hops)) (leb (d .hops) 32) (le-leb 1 (d .hops) (sound .some-hop)) (le-leb (d .hops) 32 (sound .at-most-32-hops));
       route-sound = holds-sound links (d .route) (rw (all, size) holds);
@@ -204,8 +209,8 @@ check-sound v counted sound =
     }
 
 -- no demand of a request that the test finds sound is wider than the band
-pub width-inside : (v : View) → check v ≡ Sound → (k : ℕ) → demandAt (v .demands) k .width ≤ v .band .slots
-unfolding check demandAt
+pub width-inside : (v : View) → check v ≡ Sound → (k : ℕ) → widthOf (demandAt (v .demands) k) ≤ v .band .slots
+unfolding check demandAt widthOf askedWidth
 width-inside v sound k =
     let each =
     each-passes (checkBand (v .band)) (checkSomeLink (v .linkCount)) (checkLinks 0 (v .links)) (checkLinkCount (v .linkCount))
@@ -213,7 +218,7 @@ width-inside v sound k =
     by-test (ltb k (length (v .demands)))
     (λ t.
     let pass = demands-each (v .band .slots) (v .links) [] 0 (v .demands) (each .4) k (ltb-true k (length (v .demands)) t) in
-    width-allowed (v .band .slots) (demandAt (v .demands) k .width) (pass .width-allowed) .1)
+    width-allowed (v .band .slots) (widthOf (demandAt (v .demands) k)) (pass .width-allowed) .1)
     (λ f. rw (List·getD-eq-default (v .demands) noDemand (ltb-false k (length (v .demands)) f)) (omega arith))
 
 -- the test finds a sound request sound

@@ -42,7 +42,7 @@ demand-behind r k d h = rw (take-set-le (r .«demand_count») (r .demands) k d h
 
 -- an entry of a route behind its length may be anything
 pub hop-behind : (d : Demand) (p a : ℕ) → d .hops ≤ p →
-    viewDemand (record { ident = d .ident; width = d .width; hops = d .hops; links = set (d .links) p a }) ≡ viewDemand d
+    viewDemand (record { ident = d .ident; asked = d .asked; hops = d .hops; links = set (d .links) p a }) ≡ viewDemand d
 unfolding viewDemand
 hop-behind d p a h = rw (take-set-le (d .hops) (d .links) p a h)
 

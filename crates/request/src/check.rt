@@ -75,7 +75,7 @@ fn check_links(links: [Link; 64], count: usize) -> Checked
     Checked::Sound
 }
 
-// One demand at listing position `k`: which of its tests is told first in memory is decided here alone: 8, 9, 3, 7.
+// One demand at listing position `k`: which of its tests is told first in memory is decided here alone: 8, 21, 9, 3, 7.
 fn check_demand(
     demand: Demand,
     k: usize,
@@ -89,6 +89,9 @@ fn check_demand(
     let tests = test_demand(demand, slots, links, count, earlier);
     if tests.used {
         return Checked::Refused(Refusal::IdentUsed(k));
+    }
+    if !tests.rate {
+        return Checked::Refused(Refusal::UnknownRate(k));
     }
     if !tests.width {
         return Checked::Refused(Refusal::BadWidth(k));

@@ -1,4 +1,5 @@
 // The named empty values: what stands where there is nothing.
+use crate::Asked;
 use crate::Demand;
 use crate::Link;
 use crate::Request;
@@ -32,7 +33,7 @@ pub fn empty_demand() -> Demand
 {
     Demand {
         ident: 0,
-        width: 0,
+        asked: Asked::Width(0),
         hops: 0,
         links: [0u8; 32],
     }

@@ -4,6 +4,7 @@ use refusal::Refusal;
 
 mod check;
 mod empty;
+mod rates;
 mod route;
 mod tests;
 
@@ -11,6 +12,7 @@ pub use check::check_ground;
 pub use check::check_request;
 pub use empty::empty_demand;
 pub use empty::empty_request;
+pub use rates::width_of;
 pub use tests::test_demand;
 
 // A directed link from one node to another.
@@ -19,11 +21,17 @@ pub struct Link {
     pub to: u8,
 }
 
-// A circuit asked for: its own number, its width in slots, and its route: the first `hops` entries of `links`, each a link's
-// number. Entries behind `hops` mean nothing.
+// What a circuit asks for: so many slots, or a bit rate in Gbit/s.
+pub enum Asked {
+    Width(u16),
+    Rate(u16),
+}
+
+// A circuit asked for: its own number, what it asks for, from which its width in slots follows, and its route: the first `hops` entries
+// of `links`, each a link's number. Entries behind `hops` mean nothing.
 pub struct Demand {
     pub ident: u16,
-    pub width: u16,
+    pub asked: Asked,
     pub hops: usize,
     pub links: [u8; 32],
 }
@@ -43,10 +51,11 @@ pub enum Checked {
     Refused(Refusal),
 }
 
-// What each test of a demand says: whether its ident was used before, and whether its width, the length of its route and the route
-// itself are good. Which of them is told first is the caller's matter.
+// What each test of a demand says: whether its ident was used before, whether its rate, if it asks for one, is in the table, and whether
+// its width, the length of its route and the route itself are good. Which of them is told first is the caller's matter.
 pub struct DemandTests {
     pub used: bool,
+    pub rate: bool,
     pub width: bool,
     pub hops: bool,
     pub route: bool,

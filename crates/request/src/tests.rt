@@ -3,6 +3,8 @@ use crate::Demand;
 use crate::DemandTests;
 use crate::Link;
 use crate::Request;
+use crate::rates::rate_known;
+use crate::rates::width_of;
 use crate::route::sound_route;
 use grid::width_allowed;
 ghost use mathlib.Core.Path.{_≡_};
@@ -21,9 +23,12 @@ pub fn test_demand(
 ) -> DemandTests
     ensures { λ r. ⌜ r ≡ demandTests slots (take count links) (now (earlier .entry)) (viewDemand demand) ⌝ }
 {
+    let asked = demand.asked;
+    let width = width_of(demand);
     DemandTests {
         used: ident_used(earlier, demand.ident),
-        width: width_allowed(slots, demand.width),
+        rate: rate_known(asked),
+        width: width_allowed(slots, width),
         hops: allowed_hops(demand.hops),
         route: demand_route_sound(demand, links, count),
     }

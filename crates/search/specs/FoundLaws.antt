@@ -15,7 +15,7 @@ use Rattle.theory.specs.Walk.{none-met, met, Tally, walk}
 use Rattle.theory.specs.Search as theory
 use Rattle.theory.specs.SearchLaws.{search-too-narrow, search-walks, searchWalk-some}
 use Rattle.request.specs.declared.Request.{Request}
-use Rattle.request.specs.View.{DemandView, View, view, viewDemand, demandAt, noDemand, noEntry}
+use Rattle.request.specs.View.{DemandView, View, view, viewDemand, demandAt, noDemand, noEntry, widthOf, askedWidth}
 use Rattle.request.specs.ViewLaws.{demand-shown, demands-shown}
 use Rattle.request.specs.Whole.{Whole}
 use Rattle.request.specs.inner.Limits.{Limits}
@@ -142,7 +142,7 @@ joined-everywhere v few i j =
 
 -- the problem of the table and the widths is the request's
 pub same-problem : (v : View) (widths : List ℕ) → length (v .demands) ≤ 20 →
-    ((i : ℕ) → getD widths i 0 ≡ demandAt (v .demands) i .width) →
+    ((i : ℕ) → getD widths i 0 ≡ widthOf (demandAt (v .demands) i)) →
     problemOf (meetingTable v) widths (v .band .guard) ≡ sharing.problemOf v
 unfolding problemOf sharing.problemOf
 same-problem v widths few same =
@@ -233,18 +233,16 @@ unfolding view
 few-asked q h = h .few
 
 -- the widths of the first demands of a request, with one more
-pub widths-more : (q : Request) (widths : List ℕ) (i : ℕ) → i < length widths → i < q .«demand_count» →
-    ((k : ℕ) → k < i → getD widths k 0 ≡ demandAt (view q .demands) k .width) →
-    (k : ℕ) → k < i + 1 → getD (set widths i (getD (q .demands) i noEntry .width)) k 0 ≡ demandAt (view q .demands) k .width
-unfolding viewDemand
-widths-more q widths i room listed so-far k h =
+pub widths-more : (q : Request) (widths : List ℕ) (i x : ℕ) → x ≡ widthOf (viewDemand (getD (q .demands) i noEntry)) → i < length widths →
+    i < q .«demand_count» → ((k : ℕ) → k < i → getD widths k 0 ≡ widthOf (demandAt (view q .demands) k)) →
+    (k : ℕ) → k < i + 1 → getD (set widths i x) k 0 ≡ widthOf (demandAt (view q .demands) k)
+widths-more q widths i x is room listed so-far k h =
     ⊎-elim
-    (λ (low : k < i). getD-set-other widths i k _ 0 (λ e. omega arith) ∙ so-far k low)
+    (λ (low : k < i). getD-set-other widths i k x 0 (λ e. omega arith) ∙ so-far k low)
     (λ (high : i ≤ k).
     let same : k ≡ i = omega arith in
-    subst (λ (n : ℕ). getD (set widths i (getD (q .demands) i noEntry .width)) n 0 ≡ demandAt (view q .demands) n .width) (sym same)
-    (getD-set-same widths i (getD (q .demands) i noEntry .width) 0 room
-    ∙ ap (λ (d : DemandView). d .width) (sym (demand-shown q i listed))))
+    subst (λ (n : ℕ). getD (set widths i x) n 0 ≡ widthOf (demandAt (view q .demands) n)) (sym same)
+    (getD-set-same widths i x 0 room ∙ is ∙ ap widthOf (sym (demand-shown q i listed))))
     (below-or-not k i)
 
 -- the others are not touched
@@ -253,13 +251,13 @@ widths-rest widths i x rest k h = getD-set-other widths i k x 0 (λ e. omega ari
 
 -- with the widths of all demands, and 0 behind them, each number has its demand's width
 pub widths-all : (q : Request) (widths : List ℕ) (i : ℕ) → i ≡ q .«demand_count» →
-    ((k : ℕ) → k < i → getD widths k 0 ≡ demandAt (view q .demands) k .width) → ((k : ℕ) → i ≤ k → getD widths k 0 ≡ 0) →
-    (k : ℕ) → getD widths k 0 ≡ demandAt (view q .demands) k .width
-unfolding noDemand
+    ((k : ℕ) → k < i → getD widths k 0 ≡ widthOf (demandAt (view q .demands) k)) → ((k : ℕ) → i ≤ k → getD widths k 0 ≡ 0) →
+    (k : ℕ) → getD widths k 0 ≡ widthOf (demandAt (view q .demands) k)
+unfolding noDemand widthOf askedWidth
 widths-all q widths i all so-far rest k =
     ⊎-elim
     (λ (low : k < i). so-far k low)
-    (λ (high : i ≤ k). rest k high ∙ sym (ap (λ (d : DemandView). d .width) (demand-none (view q .demands) k (omega (arith, demands-shown q)))))
+    (λ (high : i ≤ k). rest k high ∙ sym (ap (λ (d : DemandView). widthOf d) (demand-none (view q .demands) k (omega (arith, demands-shown q)))))
     (below-or-not k i)
 
 -- the three ways in which a search of a request in memory comes out, with the numbers as the code has them
@@ -282,7 +280,7 @@ module _ (q : Request) (limit need : ℕ) (found : Found) (is-bound : need ≡ b
 
   pub found-by-walk : (table : List (List Bool)) (widths : List ℕ) (walked : Walked) → Searchable (view q) →
       need ≤ q .band .slots → 1 ≤ q .«demand_count» → table ≡ meetingTable (view q) →
-      ((i : ℕ) → getD widths i 0 ≡ demandAt (view q .demands) i .width) → length (walked .starts) ≡ 20 → length (walked .order) ≡ 20 →
+      ((i : ℕ) → getD widths i 0 ≡ widthOf (demandAt (view q .demands) i)) → length (walked .starts) ≡ 20 → length (walked .order) ≡ 20 →
       Told (q .«demand_count») (walk (problemOf table widths (q .band .guard)) limit need (q .«demand_count») [] [] (listing (q .«demand_count»)) (theory.fresh (q .band .slots + 1))) walked →
       found ≡ record { answer = record { outcome = outcomeBy (walked .spent) (walked .found) (walked .mark); bound = need; steps = walked .steps; reached = walked .reached; ruled = walked .ruled }; plan = walked .found; starts = walked .starts; order = walked .order } →
       FoundFor (view q) limit found
@@ -299,7 +297,7 @@ module _ (q : Request) (limit need : ℕ) (found : Found) (is-bound : need ≡ b
 
 -- a searchable request has the sizes that the walk takes
 pub walk-sizes : (q : Request) → Whole q → Searchable (view q) → (table : List (List Bool)) (widths : List ℕ) → table ≡ meetingTable (view q) →
-    ((i : ℕ) → getD widths i 0 ≡ demandAt (view q .demands) i .width) → Sized table widths (q .band .guard) (q .«demand_count»)
+    ((i : ℕ) → getD widths i 0 ≡ widthOf (demandAt (view q .demands) i)) → Sized table widths (q .band .guard) (q .«demand_count»)
 unfolding view
 walk-sizes q whole searchable table widths is-table same-widths =
     record {

@@ -15,11 +15,12 @@ use placing::first_fit;
 use refusal::Refusal;
 use request::Checked;
 use request::Request;
+use request::width_of;
 ghost use mathlib.Core.Path.{_≡_};
 ghost use Prim.Native.Nat.{ℕ};
 ghost use lib.ListN.{getD, replicate};
 ghost use Rattle.request.specs.declared.Checked.the-variants.{Sound};
-ghost use Rattle.request.specs.View.{view, demandAt};
+ghost use Rattle.request.specs.View.{view, demandAt, widthOf};
 ghost use Rattle.request.specs.Check.{check};
 ghost use Rattle.meeting.specs.Bound.{boundOf};
 ghost use Rattle.search.specs.Reply.{outcomeBy, buffersOf, roomsOf, searchReply, buffersAfter};
@@ -123,14 +124,14 @@ fn find(request: Request, need: u32, limit: u32) -> Found
 // The widths of the demands, 0 behind the last.
 fn first_widths(request: Request) -> [u16; 20]
     requires { ⌜ Searchable (view request) ⌝ }
-    ensures { λ r. ⌜ ((i : ℕ) → getD r i 0 ≡ demandAt (view request .demands) i .width) ⌝ }
+    ensures { λ r. ⌜ ((i : ℕ) → getD r i 0 ≡ widthOf (demandAt (view request .demands) i)) ⌝ }
 {
     let count = request.demand_count;
     let mut widths = [0u16; 20];
     let mut i: usize = 0;
     while i < count {
         let demand = request.demands[i];
-        widths[i] = demand.width;
+        widths[i] = width_of(demand);
         i += 1;
     }
     widths

@@ -4,6 +4,7 @@ use mathlib.Core.List.{List, [], _∷_}
 use lib.IntN.{negsuc}
 use Rattle.grid.specs.declared.Band.{Band}
 use Rattle.request.specs.declared.Link.{Link}
+use Rattle.request.specs.declared.Asked.the-variants.{Width, Rate}
 use Rattle.request.specs.View.{View}
 
 -- a band with the lower edge -284
@@ -23,9 +24,24 @@ R S G =
       links = link 0 1 ∷ link 1 2 ∷ [];
       demandCount = 3;
       demands =
-          record { ident = 10; width = 2; hops = 1; route = 0 ∷ [] }
-          ∷ record { ident = 20; width = 1; hops = 2; route = 0 ∷ 1 ∷ [] }
-          ∷ record { ident = 30; width = 3; hops = 1; route = 1 ∷ [] }
+          record { ident = 10; asked = Width 2; hops = 1; route = 0 ∷ [] }
+          ∷ record { ident = 20; asked = Width 1; hops = 2; route = 0 ∷ 1 ∷ [] }
+          ∷ record { ident = 30; asked = Width 3; hops = 1; route = 1 ∷ [] }
+          ∷ [];
+    }
+
+-- R with its first demand booked at a rate and its second at 10 Gbit/s; at 100 they take 2 slots and 1, as in R
+abbrev pub booked : ℕ → View
+booked rate =
+    record {
+      band = bandOf 384 0;
+      linkCount = 2;
+      links = link 0 1 ∷ link 1 2 ∷ [];
+      demandCount = 3;
+      demands =
+          record { ident = 10; asked = Rate rate; hops = 1; route = 0 ∷ [] }
+          ∷ record { ident = 20; asked = Rate 10; hops = 2; route = 0 ∷ 1 ∷ [] }
+          ∷ record { ident = 30; asked = Width 3; hops = 1; route = 1 ∷ [] }
           ∷ [];
     }
 
@@ -38,9 +54,9 @@ T S =
       links = link 0 1 ∷ link 1 2 ∷ link 2 0 ∷ [];
       demandCount = 3;
       demands =
-          record { ident = 1; width = 1; hops = 2; route = 0 ∷ 1 ∷ [] }
-          ∷ record { ident = 2; width = 1; hops = 2; route = 1 ∷ 2 ∷ [] }
-          ∷ record { ident = 3; width = 1; hops = 2; route = 2 ∷ 0 ∷ [] }
+          record { ident = 1; asked = Width 1; hops = 2; route = 0 ∷ 1 ∷ [] }
+          ∷ record { ident = 2; asked = Width 1; hops = 2; route = 1 ∷ 2 ∷ [] }
+          ∷ record { ident = 3; asked = Width 1; hops = 2; route = 2 ∷ 0 ∷ [] }
           ∷ [];
     }
 
@@ -53,8 +69,8 @@ twoOnOneLink =
       links = link 0 1 ∷ link 1 2 ∷ [];
       demandCount = 2;
       demands =
-          record { ident = 1; width = 2; hops = 1; route = 0 ∷ [] }
-          ∷ record { ident = 2; width = 4; hops = 2; route = 0 ∷ 1 ∷ [] }
+          record { ident = 1; asked = Width 2; hops = 1; route = 0 ∷ [] }
+          ∷ record { ident = 2; asked = Width 4; hops = 2; route = 0 ∷ 1 ∷ [] }
           ∷ [];
     }
 
@@ -66,5 +82,16 @@ fileR =
     ∷ 2 ∷ 0 ∷ 2 ∷ 1 ∷ 2
     ∷ 3 ∷ 0 ∷ 5 ∷ 0 ∷ 10 ∷ 0 ∷ 2 ∷ 0
     ∷ 3 ∷ 0 ∷ 6 ∷ 0 ∷ 20 ∷ 0 ∷ 1 ∷ 0 ∷ 1
+    ∷ 3 ∷ 0 ∷ 5 ∷ 0 ∷ 30 ∷ 0 ∷ 3 ∷ 1
+    ∷ []
+
+-- and booked by rate, as many bytes
+abbrev pub fileBooked : List ℕ
+fileBooked =
+    1 ∷ 0 ∷ 5 ∷ 0xFE ∷ 0xE4 ∷ 1 ∷ 0x80 ∷ 0
+    ∷ 2 ∷ 0 ∷ 2 ∷ 0 ∷ 1
+    ∷ 2 ∷ 0 ∷ 2 ∷ 1 ∷ 2
+    ∷ 5 ∷ 0 ∷ 5 ∷ 0 ∷ 10 ∷ 0 ∷ 100 ∷ 0
+    ∷ 5 ∷ 0 ∷ 6 ∷ 0 ∷ 20 ∷ 0 ∷ 10 ∷ 0 ∷ 1
     ∷ 3 ∷ 0 ∷ 5 ∷ 0 ∷ 30 ∷ 0 ∷ 3 ∷ 1
     ∷ []

@@ -24,9 +24,9 @@ use Rattle.request.specs.Whole.{Whole, Counted}
 use Rattle.request.specs.SoundLaws.{all-pass, each-passes, check-sound, whole-counted}
 use Rattle.request.specs.inner.Limits.{Limits}
 use Rattle.request.specs.LimitsLaws.{sound-limits}
-use Rattle.request.specs.Encoding.{bandField, linkFields, demandFields, encode}
+use Rattle.request.specs.Encoding.{field, demandField, bandField, linkFields, demandFields, encode}
 use Rattle.request.specs.EncodingLaws.{links-bytes, file-bytes}
-use Rattle.reading.specs.Reading.{FileReading, refused, accepted, bandIn, checkBandField, LinksRead, linksRefused, linksRead, readLinks, DemandsRead, demandsRefused, demandsRead, readDemands, withDemands, withLinks, withBand, readFile}
+use Rattle.reading.specs.Reading.{FileReading, refused, accepted, bandIn, checkBandField, LinksRead, linksRefused, linksRead, readLinks, demandsBegin, DemandsRead, demandsRefused, demandsRead, readDemands, withDemands, withLinks, withBand, readFile}
 use Rattle.fields.specs.FieldLaws.{field-sound}
 use Rattle.reading.specs.ReadingLaws.{band-holds, band-long, band-sound}
 use Rattle.reading.specs.FileLaws.{file-links}
@@ -36,11 +36,13 @@ use Rattle.writing.specs.Writing.{written, outAfter}
 use Rattle.writing.specs.OutLaws.{wrote-answer, wrote-front, wrote-says}
 use Rattle.request.specs.RoundTrip.{Bytes, Idents16, Accepted}
 use Rattle.reading.specs.FieldLaws.{band-there, band-written}
+use Rattle.reading.specs.AskedLaws.{tag-begins}
 use Rattle.reading.specs.BackLaws.{links-back, demands-back}
 use Rattle.reading.specs.EncodedLaws.{links-encoded, demands-encoded}
 use Rattle.reading.specs.RepackingLaws.{band-edge, view-repacked, file-at-most}
 use Rattle.reading.specs.inner.Fields.{BandThere}
 use Rattle.reading.specs.inner.Encoded.{LinksEncoded, DemandsEncoded, requestOf}
+use Rattle.request.specs.declared.Asked.the-variants.{Width, Rate}
 
 -- links and demands that were read make an accepted request
 parts-accepted : (s : List ℕ) (links : List Link) (end : ℕ) (demands : List DemandView) → Bytes s → checkBandField s ≡ Sound →
@@ -105,10 +107,10 @@ accepted-encodes s v bytes e =
     absurd (let z : _≡_ {A = ℕ} 0 1 = cc in omega arith))
 
 -- what follows the links in a file is nothing, or a demand
-demands-next : (demands : List DemandView) → getD (demandFields demands) 0 3 ≡ 3
-unfolding demandFields
+demands-next : (demands : List DemandView) → demandsBegin (getD (demandFields demands) 0 3) ≡ true
+unfolding demandFields demandField field demandsBegin
 demands-next [] = refl
-demands-next (d ∷ demands) = refl
+demands-next (d ∷ demands) = tag-begins (d .asked)
 
 -- the numbers of a sound request's file
 sound-file : (v : View) → Counted v → check v ≡ Sound → Limits v × (length (encode v) ≤ 8128)
@@ -172,6 +174,18 @@ reads-exactly s v bytes = (
 -- an accepted request has exactly one encoding
 pub one-encoding : (s s′ : List ℕ) (v : View) → Bytes s → Bytes s′ → readFile s ≡ accepted v → readFile s′ ≡ accepted v → s ≡ s′
 one-encoding s s′ v bytes bytes′ e e′ = accepted-encodes s v bytes e .encoded ∙ sym (accepted-encodes s′ v bytes′ e′ .encoded)
+
+-- a width is not a rate
+width-no-rate : (w r : ℕ) → Width w ≡ Rate r → ⊥
+width-no-rate w r e = let z : _≡_ {A = ℕ} 0 1 = cc in omega arith
+
+-- files that book the same demand otherwise, one by its width and one by a rate, differ
+pub booked-files-differ : (s s′ : List ℕ) (v v′ : View) → readFile s ≡ accepted v → readFile s′ ≡ accepted v′ → (k w r : ℕ) →
+    demandAt (v .demands) k .asked ≡ Width w → demandAt (v′ .demands) k .asked ≡ Rate r → s ≢ s′
+booked-files-differ s s′ v v′ e e′ k w r by-width by-rate same =
+    let both : accepted v ≡ accepted v′ = sym e ∙ ap readFile same ∙ e′ in
+    let one : v ≡ v′ = cc in
+    width-no-rate w r (sym by-width ∙ ap (λ (x : View). demandAt (x .demands) k .asked) one ∙ by-rate)
 
 -- what was read is seen as it was read
 pub read-seen : (s : List ℕ) (v : View) → Bytes s → readFile s ≡ accepted v → view (packReading (readFile s) .request) ≡ v

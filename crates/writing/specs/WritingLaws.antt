@@ -10,7 +10,7 @@ use Rattle.grid.specs.declared.Band.{Band}
 use Rattle.request.specs.declared.Link.{Link}
 use Rattle.request.specs.declared.Demand.{Demand}
 use Rattle.request.specs.View.{viewDemand, noLink, noEntry}
-use Rattle.request.specs.Encoding.{twoBytes, bits16, field, bandField, linkField, demandField, linkFields, demandFields}
+use Rattle.request.specs.Encoding.{twoBytes, bits16, field, bandField, linkField, tagOf, numberAsked, demandField, linkFields, demandFields}
 use Rattle.request.specs.EncodingLaws.{demand-bytes, links-bytes, links-follow, demands-follow}
 use Rattle.lent.specs.LentLaws.{sets-then}
 use Rattle.writing.specs.inner.Ready.{RoutesFit}
@@ -39,21 +39,22 @@ link-stored out one at l e =
     rw (e, three, four)
 
 -- a demand's field
-pub demand-stored : (out one two three four : List ℕ) (at : ℕ) (d : Demand) → d .hops ≤ length (d .links) →
-    one ≡ sets out at (3 ∷ twoBytes (4 + d .hops)) → two ≡ sets one (at + 3) (twoBytes (d .ident)) →
-    three ≡ sets two (at + 5) (twoBytes (d .width)) → four ≡ sets three (at + 7) (take (d .hops) (d .links)) →
+pub demand-stored : (out one two three four : List ℕ) (at tag number : ℕ) (d : Demand) → d .hops ≤ length (d .links) →
+    tag ≡ tagOf (d .asked) → number ≡ numberAsked (d .asked) →
+    one ≡ sets out at (tag ∷ twoBytes (4 + d .hops)) → two ≡ sets one (at + 3) (twoBytes (d .ident)) →
+    three ≡ sets two (at + 5) (twoBytes number) → four ≡ sets three (at + 7) (take (d .hops) (d .links)) →
     four ≡ sets out at (demandField (viewDemand d))
 unfolding viewDemand demandField field twoBytes
-demand-stored out one two three four at d long e f g h =
+demand-stored out one two three four at tag number d long same-tag same-number e f g h =
     let hops : length (take (d .hops) (d .links)) ≡ d .hops = length-take-le (d .hops) (d .links) long in
     let body : suc (suc (suc (suc (length (take (d .hops) (d .links)))))) ≡ 4 + d .hops = rw hops (omega arith) in
-    let header : List ℕ = 3 ∷ twoBytes (4 + d .hops) in
+    let header : List ℕ = tag ∷ twoBytes (4 + d .hops) in
     let header-two : List ℕ = header ++ twoBytes (d .ident) in
-    let header-three : List ℕ = header-two ++ twoBytes (d .width) in
+    let header-three : List ℕ = header-two ++ twoBytes number in
     let two-is : two ≡ sets out at header-two = f ∙ ap (λ (o : List ℕ). sets o (at + 3) (twoBytes (d .ident))) e ∙ sets-then out at header (twoBytes (d .ident)) (at + 3) refl in
-    let three-is : three ≡ sets out at header-three = g ∙ ap (λ (o : List ℕ). sets o (at + 5) (twoBytes (d .width))) two-is ∙ sets-then out at header-two (twoBytes (d .width)) (at + 5) refl in
+    let three-is : three ≡ sets out at header-three = g ∙ ap (λ (o : List ℕ). sets o (at + 5) (twoBytes number)) two-is ∙ sets-then out at header-two (twoBytes number) (at + 5) refl in
     let four-is : four ≡ sets out at (header-three ++ take (d .hops) (d .links)) = h ∙ ap (λ (o : List ℕ). sets o (at + 7) (take (d .hops) (d .links))) three-is ∙ sets-then out at header-three (take (d .hops) (d .links)) (at + 7) refl in
-    four-is ∙ rw body
+    four-is ∙ rw (same-tag, same-number, body)
 
 -- a route, one byte more
 pub route-stored : (out after route : List ℕ) (at i : ℕ) → i < length route → after ≡ sets out at (take i route) →

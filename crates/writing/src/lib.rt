@@ -1,6 +1,7 @@
 // Requests written as the bytes of a file.
 use grid::Band;
 use lent::check_room;
+use request::Asked;
 use request::Checked;
 use request::Demand;
 use request::Link;
@@ -16,7 +17,7 @@ ghost use lib.ListN.{length, take};
 ghost use lib.Seq.{sets};
 ghost use lib.Signed.{ltZ};
 ghost use Rattle.request.specs.View.{view, viewDemand};
-ghost use Rattle.request.specs.Encoding.{twoBytes, bits16, bandField, linkField, linkFields, demandField, demandFields};
+ghost use Rattle.request.specs.Encoding.{twoBytes, bits16, bandField, linkField, linkFields, tagOf, numberAsked, demandField, demandFields};
 ghost use Rattle.writing.specs.Writing.{written, outAfter};
 ghost use Rattle.writing.specs.inner.Ready.{RoutesFit};
 
@@ -122,13 +123,33 @@ fn write_demand(demand: Demand, at: usize, out: &mut [u8])
     ensures { λ r. ⌜ now (out .exit) ≡ sets (now (out .entry)) at (demandField (viewDemand demand)) ⌝ }
 {
     let ident = demand.ident;
-    let width = demand.width;
+    let asked = demand.asked;
     let hops = demand.hops;
     let route = demand.links;
-    write_header(3, 4 + hops as u16, at, out);
+    write_header(tag_of(asked), 4 + hops as u16, at, out);
     write_number(ident, at + 3, out);
-    write_number(width, at + 5, out);
+    write_number(number_asked(asked), at + 5, out);
     write_route(&route[..hops], at + 7, out);
+}
+
+// A demand by its width has the tag 03, one by its rate 05.
+fn tag_of(asked: Asked) -> u8
+    ensures { λ r. ⌜ r ≡ tagOf asked ⌝ }
+{
+    match asked {
+        Asked::Width(_) => 3,
+        Asked::Rate(_) => 5,
+    }
+}
+
+// The width or the rate, as it was asked for.
+fn number_asked(asked: Asked) -> u16
+    ensures { λ r. ⌜ r ≡ numberAsked asked ⌝ }
+{
+    match asked {
+        Asked::Width(width) => width,
+        Asked::Rate(rate) => rate,
+    }
 }
 
 fn write_route(route: &[u8], at: usize, out: &mut [u8])

@@ -10,9 +10,10 @@ use crate::brute::plans_to_try;
 use crate::fields::put_field;
 use crate::placing::first_fit;
 use crate::plan::row_body;
+use crate::rates::Asked;
 use crate::request::{Band, Demand, Request};
 use crate::request_file::request_bytes;
-use crate::rules::Rules;
+use crate::rules::{Rules, RATES};
 use crate::walk::search;
 
 pub fn random_cases(seed: u64, count: usize) -> Cases {
@@ -67,11 +68,12 @@ fn random_call(cases: &mut Cases, dice: &mut Dice) {
 
 /// Mostly sound, mostly small.
 fn random_request(dice: &mut Dice) -> Request {
-    let mut request = match dice.below(24) {
+    let mut request = match dice.below(26) {
         0..=12 => small_request(dice),
         13 => wedged_request(dice),
         14..=21 => middling_request(dice),
         22 => request_of(dice, (1, 384), (1, 12), (19, 22)),
+        23 | 24 => wide_request(dice),
         _ if dice.one_in(8) => large_request(dice),
         _ => request_of(dice, (1, 40), (1, 64), (0, 4)),
     };
@@ -90,7 +92,7 @@ pub fn small_request(dice: &mut Dice) -> Request {
     loop {
         let request = tight_request(dice);
         tries = tries.saturating_sub(1);
-        if plans_to_try(&request).is_some() && (tries == 0 || whole_tree(&request)) {
+        if plans_to_try(&request, &Rules::right()).is_some() && (tries == 0 || whole_tree(&request)) {
             return request;
         }
     }
@@ -110,10 +112,11 @@ fn wedged_request(dice: &mut Dice) -> Request {
         let (one, other) = (dice.below(5), dice.below(5));
         request.demands.swap(one, other);
     }
+    same_by_rate(&mut request, dice);
     request
 }
 
-/// Routes of up to three links round a ring, and a band from one slot less than the bound to three more.
+/// Routes of up to three links round a ring, and a band about as long as the bound.
 fn tight_request(dice: &mut Dice) -> Request {
     let nodes = dice.between(3, 5) as usize;
     let guard = dice.pick(&[0, 0, 0, 1, 2]);
@@ -125,8 +128,26 @@ fn tight_request(dice: &mut Dice) -> Request {
         request.demands.push(Demand::new(100 * at + dice.between(0, 99), dice.between(1, 3), &route));
     }
     request.demand_count = request.demands.len();
-    let widest = request.demands.iter().map(|demand| demand.width).max().unwrap_or(1);
-    request.band.slots = widest.max(bound(&request, &Rules::right()) + dice.between(-1, 3));
+    some_by_rate(&mut request, 8, dice);
+    tighten(&mut request, dice);
+    request
+}
+
+/// A band from one slot less than the bound to three more, and no narrower than a demand.
+fn tighten(request: &mut Request, dice: &mut Dice) {
+    let rules = Rules::right();
+    let widest = request.demands.iter().map(|demand| demand.width(&rules)).max().unwrap_or(1);
+    request.band.slots = widest.max(bound(request, &rules) + dice.between(-1, 3));
+}
+
+/// As tight, with one of the high rates and now and then another.
+fn wide_request(dice: &mut Dice) -> Request {
+    let mut request = tight_request(dice);
+    for _ in 0..dice.between(1, 2) {
+        let at = dice.below(request.demands.len());
+        request.demands[at].asked = Asked::Rate(dice.pick(&[100, 400, 1000, 1000]));
+    }
+    tighten(&mut request, dice);
     request
 }
 
@@ -139,7 +160,7 @@ fn large_request(dice: &mut Dice) -> Request {
     let mut request = request_of(dice, (1, 384), (1, 64), (198, 200));
     if dice.one_in(2) {
         request.band.slots = dice.between(370, 384);
-        request.demands.iter_mut().for_each(|demand| demand.width = request.band.slots);
+        request.demands.iter_mut().for_each(|demand| demand.asked = Asked::Width(request.band.slots));
     }
     request
 }
@@ -156,7 +177,34 @@ fn request_of(dice: &mut Dice, slots: (i64, i64), links: (i64, i64), demands: (i
         request.demands.push(demand);
     }
     request.demand_count = request.demands.len();
+    let slots = request.band.slots;
+    some_by_rate(&mut request, slots, dice);
     request
+}
+
+/// Every other time about half of the demands are by rate instead: mostly narrow, none wider than so many slots.
+fn some_by_rate(request: &mut Request, most: i64, dice: &mut Dice) {
+    if dice.one_in(2) {
+        return;
+    }
+    for demand in &mut request.demands {
+        let widest = if dice.one_in(4) { most } else { most.min(2) };
+        let rates: Vec<i64> = RATES.iter().filter(|row| row.1 <= widest).map(|row| row.0).collect();
+        if dice.one_in(2) {
+            demand.asked = Asked::Rate(dice.pick(&rates));
+        }
+    }
+}
+
+/// Rates for some of the widths that a rate gives, so that every width stays.
+fn same_by_rate(request: &mut Request, dice: &mut Dice) {
+    for demand in &mut request.demands {
+        let width = demand.width(&Rules::right());
+        let rates: Vec<i64> = RATES.iter().filter(|row| row.1 == width).map(|row| row.0).collect();
+        if !rates.is_empty() && dice.one_in(3) {
+            demand.asked = Asked::Rate(dice.pick(&rates));
+        }
+    }
 }
 
 /// Links between few nodes; every other time the first of them run round.

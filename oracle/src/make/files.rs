@@ -27,7 +27,7 @@ pub fn file_cases(cases: &mut Cases) {
     earlier_field_first(cases);
 }
 
-type Fields = Vec<(u8, Vec<u8>)>;
+pub type Fields = Vec<(u8, Vec<u8>)>;
 
 /// The worked request's fields: band, two links, three demands.
 fn worked_fields() -> Fields {
@@ -41,7 +41,7 @@ fn worked_fields() -> Fields {
     ]
 }
 
-fn joined(fields: &[(u8, Vec<u8>)]) -> Vec<u8> {
+pub fn joined(fields: &[(u8, Vec<u8>)]) -> Vec<u8> {
     let mut out = Vec::new();
     for (tag, body) in fields {
         put_field(&mut out, *tag, body);
@@ -57,7 +57,7 @@ fn replaced(at: usize, tag: u8, body: &[u8]) -> Fields {
 }
 
 /// A file and one more field whose stated length is its own.
-fn followed(mut file: Vec<u8>, tag: u8, length: u16, body: &[u8]) -> Vec<u8> {
+pub fn followed(mut file: Vec<u8>, tag: u8, length: u16, body: &[u8]) -> Vec<u8> {
     file.push(tag);
     file.extend_from_slice(&length.to_be_bytes());
     file.extend_from_slice(body);
@@ -207,7 +207,7 @@ fn bytes_damaged(cases: &mut Cases) {
 
 fn tags_damaged(cases: &mut Cases) {
     for at in 0..6 {
-        for tag in [0, 1, 2, 3, 4, 5] {
+        for tag in [0, 1, 2, 3, 4, 5, 6] {
             let mut fields = worked_fields();
             fields[at].0 = tag;
             cases.read(&joined(&fields));

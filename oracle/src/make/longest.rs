@@ -2,7 +2,7 @@
 
 use super::cases::Cases;
 use super::ones::packed;
-use super::shapes::{largest, stack};
+use super::shapes::{largest, largest_mixed, stack};
 use crate::one::One;
 
 const COUNT_MOST: usize = 65_535;
@@ -17,6 +17,7 @@ pub fn longest_cases() -> Cases {
     cases.sound(&request);
     cases.bound(&request);
     cases.write(ROOM_MOST, &request);
+    cases.write(ROOM_MOST, &largest_mixed());
     cases.place(ROOM_MOST, &vec![0; COUNT_MOST], &request);
     cases.search(10, [ROOM_MOST; 3], &request);
     cases.check(&vec![0; COUNT_MOST], &request);

@@ -3,6 +3,7 @@
 use super::cases::Cases;
 use super::files::{bands_at_the_edges, routes_on_a_ring};
 use super::shapes::*;
+use crate::rates::Asked;
 use crate::request::{Band, Demand, Request};
 use crate::request_file::request_bytes;
 
@@ -58,7 +59,7 @@ fn unsound_demands() -> Vec<Request> {
     let mut requests = Vec::new();
     for position in 0..3 {
         for width in [0, 384, 385, 65535] {
-            requests.push(changed(&base, |request| request.demands[position].width = width));
+            requests.push(changed(&base, |request| request.demands[position].asked = Asked::Width(width)));
         }
         for ident in [10, 20, 30, 65535] {
             requests.push(changed(&base, |request| request.demands[position].ident = ident));
@@ -70,7 +71,7 @@ fn unsound_demands() -> Vec<Request> {
             let demand = Demand::new(77, 1, &route);
             let mut request = Request::new(Band::new(0, 4, 0), ring(4), base.demands.clone());
             request.demands[position] = demand;
-            request.demands.iter_mut().for_each(|demand| demand.width = 1);
+            request.demands.iter_mut().for_each(|demand| demand.asked = Asked::Width(1));
             requests.push(request);
         }
     }
@@ -89,7 +90,8 @@ fn one_of_each_fault() -> Vec<Request> {
         with_demand_count(base.clone(), 201),
         changed(&base, |request| request.demands[2].route = vec![2]),
         changed(&base, |request| request.demands[1].ident = 10),
-        changed(&base, |request| request.demands[0].width = 385),
+        changed(&base, |request| request.demands[0].asked = Asked::Width(385)),
+        changed(&base, |request| request.demands[2].asked = Asked::Rate(1001)),
     ]
 }
 
@@ -97,7 +99,7 @@ fn one_of_each_fault() -> Vec<Request> {
 type Fault = fn(&mut Request);
 
 /// The faults by place: the band, the links, and a demand that stands in the middle.
-const FAULTS: [Fault; 13] = [
+const FAULTS: [Fault; 15] = [
     |request| request.band.n0 = 401,
     |request| request.band.slots = 0,
     |request| request.band.guard = 255,
@@ -105,8 +107,10 @@ const FAULTS: [Fault; 13] = [
     |request| request.links[0] = (5, 5),
     |request| *request = with_link_count(request.clone(), 65),
     |request| request.demands[1].ident = 10,
-    |request| request.demands[1].width = 0,
-    |request| request.demands[1].width = 385,
+    |request| request.demands[1].asked = Asked::Width(0),
+    |request| request.demands[1].asked = Asked::Width(385),
+    |request| request.demands[1].asked = Asked::Rate(0),
+    |request| request.demands[1].asked = Asked::Rate(101),
     |request| *request = with_hops(request.clone(), 1, 0),
     |request| *request = with_hops(request.clone(), 1, 33),
     |request| request.demands[1].route[0] = 99,
@@ -147,9 +151,10 @@ fn apply_both(request: &mut Request, first: Fault, second: Fault) -> bool {
 
 fn two_demands(cases: &mut Cases) {
     let base = with_demand(worked(384, 0), Demand::new(40, 1, &[0]));
-    let faults: [fn(&mut Demand); 4] = [
+    let faults: [fn(&mut Demand); 5] = [
         |demand| demand.ident = 10,
-        |demand| demand.width = 0,
+        |demand| demand.asked = Asked::Width(0),
+        |demand| demand.asked = Asked::Rate(99),
         |demand| {
             demand.hops = 0;
             demand.route.clear();
@@ -171,9 +176,9 @@ fn two_demands(cases: &mut Cases) {
 fn repeats_before_the_count(cases: &mut Cases) {
     let many = with_demand_count(worked(384, 0), 201);
     cases.sound(&changed(&many, |request| request.demands[150].ident = 1003));
-    cases.sound(&changed(&many, |request| request.demands[199].width = 0));
+    cases.sound(&changed(&many, |request| request.demands[199].asked = Asked::Width(0)));
     cases.sound(&changed(&many, |request| request.links[1] = (1, 1)));
-    cases.sound(&changed(&with_link_count(many, 65), |request| request.demands[0].width = 0));
+    cases.sound(&changed(&with_link_count(many, 65), |request| request.demands[0].asked = Asked::Width(0)));
 }
 
 fn written_requests(cases: &mut Cases) {

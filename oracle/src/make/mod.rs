@@ -12,6 +12,7 @@ mod longest;
 mod memory;
 mod ones;
 mod planning;
+mod rates;
 mod searching;
 pub mod shapes;
 mod streams;
@@ -26,6 +27,7 @@ pub fn stored() -> Vec<Call> {
     let mut cases = Cases::default();
     files::file_cases(&mut cases);
     memory::memory_cases(&mut cases);
+    rates::rate_cases(&mut cases);
     fitting::fitting_cases(&mut cases);
     blocking::blocking_cases(&mut cases);
     ones::one_cases(&mut cases);

@@ -4,6 +4,7 @@ use super::cases::Cases;
 use super::chance::small_request;
 use super::dice::Dice;
 use super::shapes::*;
+use crate::rates::Asked;
 use crate::request::{Band, Demand, Request};
 use crate::rules::Rules;
 use crate::walk::{search, Outcome};
@@ -27,7 +28,7 @@ pub fn long_cases(cases: &mut Cases) {
         cases.search(limit, [20; 3], &nested(20, 60));
     }
     cases.search(MOST, [7; 3], &round(7, 3, 0));
-    let wider = changed(&round(7, 20, 1), |request| request.demands[0].width = 2);
+    let wider = changed(&round(7, 20, 1), |request| request.demands[0].asked = Asked::Width(2));
     around_exact(cases, &wider);
     cases.search(100_000, [20; 3], &nested(20, 40));
 }
@@ -125,7 +126,7 @@ fn around_exact_limits(cases: &mut Cases) {
 fn equal_ends() -> Request {
     let mut request = triangle(9);
     for (demand, width) in request.demands.iter_mut().zip([2, 1, 3]) {
-        demand.width = width;
+        demand.asked = Asked::Width(width);
     }
     with_demand(request, Demand::new(7, 2, &[1]))
 }

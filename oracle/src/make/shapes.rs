@@ -1,6 +1,12 @@
 //! Requests from which cases are made.
 
+use crate::rates::Asked;
 use crate::request::{Band, Demand, Request};
+use crate::rules::RATES;
+
+/// Rates that are not in the table: next to one that is, of the same low or swapped bytes, or in use elsewhere.
+pub const UNLISTED: [i64; 21] =
+    [0, 1, 9, 11, 39, 41, 99, 101, 399, 401, 999, 1001, 65535, 25, 50, 200, 800, 266, 296, 356, 2560];
 
 /// Links 0 to 1, 1 to 2 and so on.
 pub fn line(count: usize) -> Vec<(u8, u8)> {
@@ -48,6 +54,15 @@ pub fn largest() -> Request {
         Demand::new(65535 - at as i64, 1 + (at as i64 % 384), &(first..first + 32).collect::<Vec<_>>())
     };
     Request::new(Band::new(-400, 384, 8), line(64), (0..200).map(demand).collect())
+}
+
+/// As large, and every other demand by rate.
+pub fn largest_mixed() -> Request {
+    changed(&largest(), |request| {
+        for (at, demand) in request.demands.iter_mut().enumerate().step_by(2) {
+            demand.asked = Asked::Rate(RATES[at / 2 % RATES.len()].0);
+        }
+    })
 }
 
 /// Three full links with one best end, at the bound. The first demand must not be placed first: it has to stand on the fourth

@@ -4,8 +4,9 @@ use super::chance::random_cases;
 use super::dice::Dice;
 use super::longest::longest_cases;
 use super::ones::packed;
-use super::shapes::worked;
+use super::shapes::{changed, worked};
 use crate::frames::{call_of, frame_of, framed, next_frame, Call};
+use crate::rates::Asked;
 use crate::request::{Band, Request};
 
 /// A damaged search may be given any limit. Streams with a larger one than this are left out: they would take too long.
@@ -20,7 +21,7 @@ pub fn malformed() -> Vec<Vec<u8>> {
         streams.push([&good[..], &broken].concat());
         streams.push([&good[..], &broken, &good].concat());
     }
-    for broken in wrong_lengths().into_iter().chain(too_much_room()).chain(overlong()) {
+    for broken in wrong_lengths().into_iter().chain(wrong_tags()).chain(too_much_room()).chain(overlong()) {
         streams.push([&good[..], &broken, &good].concat());
     }
     for length in 1..good.len() {
@@ -73,6 +74,43 @@ fn wrong_lengths() -> Vec<Vec<u8>> {
         let (op, body) = (frame[0], &frame[5..]);
         frames.extend((0..body.len()).map(|length| framed(op, &body[..length])));
         frames.push(framed(op, &[body, &[0]].concat()));
+    }
+    frames
+}
+
+/// A demand under a tag that is none of a demand's, first or last of three, by width or by rate before. The request comes last
+/// in every body, so its demands are counted from there.
+fn wrong_tags() -> Vec<Vec<u8>> {
+    let request = changed(&worked(384, 0), |request| request.demands[2].asked = Asked::Rate(40));
+    let mut frames = Vec::new();
+    for call in one_of_each(&request).iter().filter(|call| call.request().is_some()) {
+        let frame = frame_of(call);
+        for (at, tags) in [(0, &[0x00, 0x06][..]), (2, &[0x02, 0x04])] {
+            let behind: usize = request.demands[at..].iter().map(|demand| 6 + demand.hops).sum();
+            for &tag in tags {
+                let mut frame = frame.clone();
+                let place = frame.len() - behind;
+                frame[place] = tag;
+                frames.push(frame);
+            }
+        }
+    }
+    frames.extend(refused_and_tagged());
+    frames
+}
+
+/// A wrong tag in a request that would be refused before its demands are tested, or at an earlier one.
+fn refused_and_tagged() -> Vec<Vec<u8>> {
+    let bad_band = changed(&worked(384, 0), |request| request.band.guard = 9);
+    let bad_rate = changed(&worked(384, 0), |request| request.demands[0].asked = Asked::Rate(11));
+    let mut frames = Vec::new();
+    for request in [bad_band, bad_rate] {
+        for tag in [0x00, 0x01, 0x02, 0x04, 0x06, 0x07, 0x83, 0x85, 0xFF] {
+            let mut frame = frame_of(&Call::Sound { request: request.clone() });
+            let place = frame.len() - 7;
+            frame[place] = tag;
+            frames.push(frame);
+        }
     }
     frames
 }

@@ -7,7 +7,7 @@ use Rattle.theory.specs.Blocker.{blockerIn}
 use Rattle.theory.specs.Earlier.{NoRepeats}
 use Rattle.theory.specs.Problem.{Row, fill, top, startIn, Fitted, placed, firstFit}
 use Rattle.request.specs.declared.Request.{Request}
-use Rattle.request.specs.View.{View, view, noEntry}
+use Rattle.request.specs.View.{View, view, noEntry, widthOf, viewDemand}
 use Rattle.request.specs.Sound.{SoundRequest}
 use Rattle.request.specs.inner.Limits.{Limits}
 use Rattle.request.specs.Sharing.{problemOf}
@@ -30,7 +30,7 @@ pub record OrderAsked (v : View) (order : List ℕ) : Type 0 where
 pub record Sized (q : Request) (i : ℕ) : Type 0 where
   pub listed : i < length (view q .demands)
   pub position : i < 200
-  pub width-is : getD (q .demands) i noEntry .width ≡ problemOf (view q) .width i
+  pub width-is : widthOf (viewDemand (getD (q .demands) i noEntry)) ≡ problemOf (view q) .width i
   pub width-inside : problemOf (view q) .width i ≤ view q .band .slots
   pub slots-fit : q .band .slots ≤ 384
 

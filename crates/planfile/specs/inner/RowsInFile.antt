@@ -7,7 +7,7 @@ use mathlib.Core.Path.{_≡_}
 use lib.ListN.{length, drop}
 use Rattle.theory.specs.Earlier.{NoRepeats}
 use Rattle.theory.specs.Problem.{Row, startIn}
-use Rattle.request.specs.View.{View, demandAt}
+use Rattle.request.specs.View.{View, demandAt, widthOf}
 use Rattle.fields.specs.Field.{number16}
 use Rattle.fields.specs.inner.Holds.{FieldHolds}
 use Rattle.meeting.specs.Plan.{startAt}
@@ -25,11 +25,11 @@ pub record RowThere (s : List ℕ) (at ident start : ℕ) (rest : List ℕ) : Ty
 pub record NewRowHolds (v : View) (rows : List Row) (r : Row) : Type 0 where
   pub listed : r .who < length (v .demands)
   pub first : given rows (r .who) ≡ false
-  pub within : r .at + demandAt (v .demands) (r .who) .width ≤ v .band .slots
+  pub within : r .at + widthOf (demandAt (v .demands) (r .who)) ≤ v .band .slots
 
 -- each row ends within the band
 abbrev pub RowsWithin : View → List Row → Type 0
-RowsWithin v rows = (k : ℕ) → given rows k ≡ true → startIn rows k + demandAt (v .demands) k .width ≤ v .band .slots
+RowsWithin v rows = (k : ℕ) → given rows k ≡ true → startIn rows k + widthOf (demandAt (v .demands) k) ≤ v .band .slots
 
 -- the starts that rows give are these
 abbrev pub RowsOf : List ℕ → List Row → Type 0

@@ -6,7 +6,7 @@ use borrow.Author.Needs.{needs}
 use denote.Ref.{now}
 use lib.ListN.{length, take, replicate}
 use Rattle.reading.specs.inner.SoFar.{DemandsSoFar}
-use Rattle.reading.specs.DemandsLaws.{used-room, demands-begin, demands-finish, demands-fail, demands-step, field-first, demand-here, demand-room, used-length}
+use Rattle.reading.specs.DemandsLaws.{used-room, demands-begin, demands-finish, demands-fail, demands-step, field-tagged, field-first, demand-here, demand-room, used-length}
 use Rattle.request.specs.declared.Demand.{Demand}
 use Rattle.reading.proofs.read_demands.Statement.{statement}
 use Rattle.reading.proofs.read_demands.Tie as tie
@@ -28,6 +28,9 @@ loop-holds c =
     subst (λ (d : Demand). DemandsSoFar (start .args .slots) links s (start .args .start) (start .args .start) 0 (replicate 200 d) (replicate 200 0))
     (sym (c .empty-demand .ensures)) (demands-begin (start .args .slots) links s (start .args .start) (start .pre))
 
+demand-tag-requires : tie.Need-demand-tag-requires Inv-loop μ-loop
+demand-tag-requires c κs = search needs
+
 check-field-requires : tie.Need-check-field-requires Inv-loop μ-loop
 check-field-requires c κs = search needs
 
@@ -39,32 +42,37 @@ no-demands-requires c κs = search needs
 
 returns : tie.Need-returns Inv-loop μ-loop
 returns c =
-    let start = c .before .before .before .before .before .before .before .before .before in
-    let turn = c .before .before .before .before .before .before .loop in
+    let start = c .before .before .before .before .before .before .before .before .before .before in
+    let turn = c .before .before .before .before .before .before .before .loop in
     let links = take (start .args .link-count) (start .args .links) in
     let s = now (start .args .file) in
+    let tag = c .before .before .before .before .before .demand-tag in
     c .no-demands .ensures ∙
     demands-fail (start .args .slots) links s (start .args .start) (turn .at) (turn .count) (turn .demands) (turn .idents) (turn .inv) (λ done. omega arith)
-    (field-first (start .args .slots) links s (turn .at) (take (turn .count) (turn .idents)) (sym (c .before .before .header .given .1) ∙ c .before .before .before .before .check-field .ensures))
+    (field-first (start .args .slots) links s (turn .at) (take (turn .count) (turn .idents)) (field-tagged s (turn .at) (tag .result) (tag .ensures) (sym (c .before .before .header .given .1) ∙ c .before .before .before .before .check-field .ensures)))
 
 enum-told : tie.Need-enum-told Inv-loop μ-loop
 enum-told c = search needs
 
 demand-in-requires : tie.Need-demand-in-requires Inv-loop μ-loop
-demand-in-requires c κs = sym (c .before .before .check-field .ensures) ∙ c .enum-told .given .1
+demand-in-requires c κs =
+    let start = c .before .before .before .before .before .before .before .before in
+    let turn = c .before .before .before .before .before .loop in
+    let tag = c .before .before .before .demand-tag in
+    sym (field-tagged (now (start .args .file)) (turn .at) (tag .result) (tag .ensures) (sym (c .enum-told .given .1) ∙ c .before .before .check-field .ensures))
 
 array-share-prefix-idents : tie.Need-array-share-prefix-idents Inv-loop μ-loop
 array-share-prefix-idents c =
-    let start = c .before .before .before .before .before .before .before .before in
-    let turn = c .before .before .before .before .before .loop in
+    let start = c .before .before .before .before .before .before .before .before .before in
+    let turn = c .before .before .before .before .before .before .loop in
     let links = take (start .args .link-count) (start .args .links) in
     let s = now (start .args .file) in
     used-room (start .args .slots) links s (start .args .start) (turn .at) (turn .count) (turn .demands) (turn .idents) (turn .inv)
 
 slice-aggregate-check-new-demand : tie.Need-slice-aggregate-check-new-demand Inv-loop μ-loop
 slice-aggregate-check-new-demand c =
-    let start = c .before .before .before .before .before .before .before .before .before in
-    let turn = c .before .before .before .before .before .before .loop in
+    let start = c .before .before .before .before .before .before .before .before .before .before in
+    let turn = c .before .before .before .before .before .before .before .loop in
     let links = take (start .args .link-count) (start .args .links) in
     let s = now (start .args .file) in
     sym (used-length (start .args .slots) links s (start .args .start) (turn .at) (turn .count) (turn .demands) (turn .idents) (turn .inv))
@@ -80,14 +88,15 @@ no-demands-requires-2 c κs = search needs
 
 returns-2 : tie.Need-returns-2 Inv-loop μ-loop
 returns-2 c =
-    let start = c .before .before .before .before .before .before .before .before .before .before .before .before .before .before in
-    let turn = c .before .before .before .before .before .before .before .before .before .before .before .loop in
+    let start = c .before .before .before .before .before .before .before .before .before .before .before .before .before .before .before in
+    let turn = c .before .before .before .before .before .before .before .before .before .before .before .before .loop in
     let links = take (start .args .link-count) (start .args .links) in
     let s = now (start .args .file) in
     let read = c .before .before .before .before .before .before .demand-in in
-    let field = sym (c .before .before .before .before .before .before .before .enum-told .given .1) ∙ c .before .before .before .before .before .before .before .before .before .check-field .ensures in
+    let tag = c .before .before .before .before .before .before .before .before .before .before .demand-tag in
+    let field = field-tagged s (turn .at) (tag .result) (tag .ensures) (sym (c .before .before .before .before .before .before .before .enum-told .given .1) ∙ c .before .before .before .before .before .before .before .before .before .check-field .ensures) in
     c .no-demands2 .ensures ∙
-    demands-fail (start .args .slots) links s (start .args .start) (turn .at) (turn .count) (turn .demands) (turn .idents) (turn .inv) (λ done. omega arith)
+    demands-fail (start .args .slots) links s (start .args .start) (turn .at) (turn .count) (turn .demands) (turn .idents) (turn .inv) (λ done. omega (arith, c .before .before .before .before .before .before .before .before .before .before .before .loop-test .taken))
     (demand-here (start .args .slots) links s (start .args .start) (turn .at) (turn .count) (turn .demands) (turn .idents) (turn .inv) (read .result) (read .ensures) field (sym (c .before .before .answer .given .1) ∙ c .before .before .before .before .check-new-demand .ensures))
 
 enum-told-2 : tie.Need-enum-told-2 Inv-loop μ-loop
@@ -95,108 +104,117 @@ enum-told-2 c = search needs
 
 mul-demands : tie.Need-mul-demands Inv-loop μ-loop
 mul-demands c =
-    let start = c .before .before .before .before .before .before .before .before .before .before .before .before in
-    let turn = c .before .before .before .before .before .before .before .before .before .loop in
+    let start = c .before .before .before .before .before .before .before .before .before .before .before .before .before in
+    let turn = c .before .before .before .before .before .before .before .before .before .before .loop in
     let links = take (start .args .link-count) (start .args .links) in
     let s = now (start .args .file) in
     let read = c .before .before .before .before .demand-in in
-    let field = sym (c .before .before .before .before .before .enum-told .given .1) ∙ c .before .before .before .before .before .before .before .check-field .ensures in
+    let tag = c .before .before .before .before .before .before .before .before .demand-tag in
+    let field = field-tagged s (turn .at) (tag .result) (tag .ensures) (sym (c .before .before .before .before .before .enum-told .given .1) ∙ c .before .before .before .before .before .before .before .check-field .ensures) in
     let sound = demand-here (start .args .slots) links s (start .args .start) (turn .at) (turn .count) (turn .demands) (turn .idents) (turn .inv) (read .result) (read .ensures) field (sym (c .enum-told2 .given .1) ∙ c .before .before .check-new-demand .ensures) in
     let room = demand-room (start .args .slots) links s (start .args .start) (turn .at) (turn .count) (turn .demands) (turn .idents) (turn .inv) sound in
     omega arith
 
 array-set-from-demands : tie.Need-array-set-from-demands Inv-loop μ-loop
 array-set-from-demands c =
-    let start = c .before .before .before .before .before .before .before .before .before .before .before .before in
-    let turn = c .before .before .before .before .before .before .before .before .before .loop in
+    let start = c .before .before .before .before .before .before .before .before .before .before .before .before .before in
+    let turn = c .before .before .before .before .before .before .before .before .before .before .loop in
     let links = take (start .args .link-count) (start .args .links) in
     let s = now (start .args .file) in
     let read = c .before .before .before .before .demand-in in
-    let field = sym (c .before .before .before .before .before .enum-told .given .1) ∙ c .before .before .before .before .before .before .before .check-field .ensures in
+    let tag = c .before .before .before .before .before .before .before .before .demand-tag in
+    let field = field-tagged s (turn .at) (tag .result) (tag .ensures) (sym (c .before .before .before .before .before .enum-told .given .1) ∙ c .before .before .before .before .before .before .before .check-field .ensures) in
     let sound = demand-here (start .args .slots) links s (start .args .start) (turn .at) (turn .count) (turn .demands) (turn .idents) (turn .inv) (read .result) (read .ensures) field (sym (c .enum-told2 .given .1) ∙ c .before .before .check-new-demand .ensures) in
     let room = demand-room (start .args .slots) links s (start .args .start) (turn .at) (turn .count) (turn .demands) (turn .idents) (turn .inv) sound in
     omega arith
 
 mul-idents : tie.Need-mul-idents Inv-loop μ-loop
 mul-idents c =
-    let start = c .before .before .before .before .before .before .before .before .before .before .before .before in
-    let turn = c .before .before .before .before .before .before .before .before .before .loop in
+    let start = c .before .before .before .before .before .before .before .before .before .before .before .before .before in
+    let turn = c .before .before .before .before .before .before .before .before .before .before .loop in
     let links = take (start .args .link-count) (start .args .links) in
     let s = now (start .args .file) in
     let read = c .before .before .before .before .demand-in in
-    let field = sym (c .before .before .before .before .before .enum-told .given .1) ∙ c .before .before .before .before .before .before .before .check-field .ensures in
+    let tag = c .before .before .before .before .before .before .before .before .demand-tag in
+    let field = field-tagged s (turn .at) (tag .result) (tag .ensures) (sym (c .before .before .before .before .before .enum-told .given .1) ∙ c .before .before .before .before .before .before .before .check-field .ensures) in
     let sound = demand-here (start .args .slots) links s (start .args .start) (turn .at) (turn .count) (turn .demands) (turn .idents) (turn .inv) (read .result) (read .ensures) field (sym (c .enum-told2 .given .1) ∙ c .before .before .check-new-demand .ensures) in
     let room = demand-room (start .args .slots) links s (start .args .start) (turn .at) (turn .count) (turn .demands) (turn .idents) (turn .inv) sound in
     omega arith
 
 array-write-idents : tie.Need-array-write-idents Inv-loop μ-loop
 array-write-idents c =
-    let start = c .before .before .before .before .before .before .before .before .before .before .before .before in
-    let turn = c .before .before .before .before .before .before .before .before .before .loop in
+    let start = c .before .before .before .before .before .before .before .before .before .before .before .before .before in
+    let turn = c .before .before .before .before .before .before .before .before .before .before .loop in
     let links = take (start .args .link-count) (start .args .links) in
     let s = now (start .args .file) in
     let read = c .before .before .before .before .demand-in in
-    let field = sym (c .before .before .before .before .before .enum-told .given .1) ∙ c .before .before .before .before .before .before .before .check-field .ensures in
+    let tag = c .before .before .before .before .before .before .before .before .demand-tag in
+    let field = field-tagged s (turn .at) (tag .result) (tag .ensures) (sym (c .before .before .before .before .before .enum-told .given .1) ∙ c .before .before .before .before .before .before .before .check-field .ensures) in
     let sound = demand-here (start .args .slots) links s (start .args .start) (turn .at) (turn .count) (turn .demands) (turn .idents) (turn .inv) (read .result) (read .ensures) field (sym (c .enum-told2 .given .1) ∙ c .before .before .check-new-demand .ensures) in
     let room = demand-room (start .args .slots) links s (start .args .start) (turn .at) (turn .count) (turn .demands) (turn .idents) (turn .inv) sound in
     omega arith
 
 add-count : tie.Need-add-count Inv-loop μ-loop
 add-count c =
-    let start = c .before .before .before .before .before .before .before .before .before .before .before .before in
-    let turn = c .before .before .before .before .before .before .before .before .before .loop in
+    let start = c .before .before .before .before .before .before .before .before .before .before .before .before .before in
+    let turn = c .before .before .before .before .before .before .before .before .before .before .loop in
     let links = take (start .args .link-count) (start .args .links) in
     let s = now (start .args .file) in
     let read = c .before .before .before .before .demand-in in
-    let field = sym (c .before .before .before .before .before .enum-told .given .1) ∙ c .before .before .before .before .before .before .before .check-field .ensures in
+    let tag = c .before .before .before .before .before .before .before .before .demand-tag in
+    let field = field-tagged s (turn .at) (tag .result) (tag .ensures) (sym (c .before .before .before .before .before .enum-told .given .1) ∙ c .before .before .before .before .before .before .before .check-field .ensures) in
     let sound = demand-here (start .args .slots) links s (start .args .start) (turn .at) (turn .count) (turn .demands) (turn .idents) (turn .inv) (read .result) (read .ensures) field (sym (c .enum-told2 .given .1) ∙ c .before .before .check-new-demand .ensures) in
     let room = demand-room (start .args .slots) links s (start .args .start) (turn .at) (turn .count) (turn .demands) (turn .idents) (turn .inv) sound in
     omega arith
 
 add-at : tie.Need-add-at Inv-loop μ-loop
 add-at c =
-    let start = c .before .before .before .before .before .before .before .before .before .before .before .before in
-    let turn = c .before .before .before .before .before .before .before .before .before .loop in
+    let start = c .before .before .before .before .before .before .before .before .before .before .before .before .before in
+    let turn = c .before .before .before .before .before .before .before .before .before .before .loop in
     let links = take (start .args .link-count) (start .args .links) in
     let s = now (start .args .file) in
     let read = c .before .before .before .before .demand-in in
-    let field = sym (c .before .before .before .before .before .enum-told .given .1) ∙ c .before .before .before .before .before .before .before .check-field .ensures in
+    let tag = c .before .before .before .before .before .before .before .before .demand-tag in
+    let field = field-tagged s (turn .at) (tag .result) (tag .ensures) (sym (c .before .before .before .before .before .enum-told .given .1) ∙ c .before .before .before .before .before .before .before .check-field .ensures) in
     let sound = demand-here (start .args .slots) links s (start .args .start) (turn .at) (turn .count) (turn .demands) (turn .idents) (turn .inv) (read .result) (read .ensures) field (sym (c .enum-told2 .given .1) ∙ c .before .before .check-new-demand .ensures) in
     let next = demands-step (start .args .slots) links s (start .args .start) (turn .at) (turn .count) (turn .demands) (turn .idents) (turn .inv) (read .result) (read .ensures) (λ done. omega arith) sound in
     omega (arith, next .within)
 
 add-at-2 : tie.Need-add-at-2 Inv-loop μ-loop
 add-at-2 c =
-    let start = c .before .before .before .before .before .before .before .before .before .before .before .before .before in
-    let turn = c .before .before .before .before .before .before .before .before .before .before .loop in
+    let start = c .before .before .before .before .before .before .before .before .before .before .before .before .before .before in
+    let turn = c .before .before .before .before .before .before .before .before .before .before .before .loop in
     let links = take (start .args .link-count) (start .args .links) in
     let s = now (start .args .file) in
     let read = c .before .before .before .before .before .demand-in in
-    let field = sym (c .before .before .before .before .before .before .enum-told .given .1) ∙ c .before .before .before .before .before .before .before .before .check-field .ensures in
+    let tag = c .before .before .before .before .before .before .before .before .before .demand-tag in
+    let field = field-tagged s (turn .at) (tag .result) (tag .ensures) (sym (c .before .before .before .before .before .before .enum-told .given .1) ∙ c .before .before .before .before .before .before .before .before .check-field .ensures) in
     let sound = demand-here (start .args .slots) links s (start .args .start) (turn .at) (turn .count) (turn .demands) (turn .idents) (turn .inv) (read .result) (read .ensures) field (sym (c .before .enum-told2 .given .1) ∙ c .before .before .before .check-new-demand .ensures) in
     let next = demands-step (start .args .slots) links s (start .args .start) (turn .at) (turn .count) (turn .demands) (turn .idents) (turn .inv) (read .result) (read .ensures) (λ done. omega arith) sound in
     omega (arith, next .within)
 
 loop-less : tie.Need-loop-less Inv-loop μ-loop
 loop-less c =
-    let start = c .before .before .before .before .before .before .before .before .before .before .before .before .before in
-    let turn = c .before .before .before .before .before .before .before .before .before .before .loop in
+    let start = c .before .before .before .before .before .before .before .before .before .before .before .before .before .before in
+    let turn = c .before .before .before .before .before .before .before .before .before .before .before .loop in
     let links = take (start .args .link-count) (start .args .links) in
     let s = now (start .args .file) in
     let read = c .before .before .before .before .before .demand-in in
-    let field = sym (c .before .before .before .before .before .before .enum-told .given .1) ∙ c .before .before .before .before .before .before .before .before .check-field .ensures in
+    let tag = c .before .before .before .before .before .before .before .before .before .demand-tag in
+    let field = field-tagged s (turn .at) (tag .result) (tag .ensures) (sym (c .before .before .before .before .before .before .enum-told .given .1) ∙ c .before .before .before .before .before .before .before .before .check-field .ensures) in
     let sound = demand-here (start .args .slots) links s (start .args .start) (turn .at) (turn .count) (turn .demands) (turn .idents) (turn .inv) (read .result) (read .ensures) field (sym (c .before .enum-told2 .given .1) ∙ c .before .before .before .check-new-demand .ensures) in
     let next = demands-step (start .args .slots) links s (start .args .start) (turn .at) (turn .count) (turn .demands) (turn .idents) (turn .inv) (read .result) (read .ensures) (λ done. omega arith) sound in
     omega (arith, next .within)
 
 loop-again : tie.Need-loop-again Inv-loop μ-loop
 loop-again c =
-    let start = c .before .before .before .before .before .before .before .before .before .before .before .before .before in
-    let turn = c .before .before .before .before .before .before .before .before .before .before .loop in
+    let start = c .before .before .before .before .before .before .before .before .before .before .before .before .before .before in
+    let turn = c .before .before .before .before .before .before .before .before .before .before .before .loop in
     let links = take (start .args .link-count) (start .args .links) in
     let s = now (start .args .file) in
     let read = c .before .before .before .before .before .demand-in in
-    let field = sym (c .before .before .before .before .before .before .enum-told .given .1) ∙ c .before .before .before .before .before .before .before .before .check-field .ensures in
+    let tag = c .before .before .before .before .before .before .before .before .before .demand-tag in
+    let field = field-tagged s (turn .at) (tag .result) (tag .ensures) (sym (c .before .before .before .before .before .before .enum-told .given .1) ∙ c .before .before .before .before .before .before .before .before .check-field .ensures) in
     let sound = demand-here (start .args .slots) links s (start .args .start) (turn .at) (turn .count) (turn .demands) (turn .idents) (turn .inv) (read .result) (read .ensures) field (sym (c .before .enum-told2 .given .1) ∙ c .before .before .before .check-new-demand .ensures) in
     demands-step (start .args .slots) links s (start .args .start) (turn .at) (turn .count) (turn .demands) (turn .idents) (turn .inv) (read .result) (read .ensures) (λ done. omega arith) sound
 
@@ -216,6 +234,7 @@ read-demands-spec =
     μ-loop
     empty-demand-requires
     loop-holds
+    demand-tag-requires
     check-field-requires
     enum-known-header
     no-demands-requires

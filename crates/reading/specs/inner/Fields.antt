@@ -7,9 +7,9 @@ use lib.ListN.{length, drop}
 use Rattle.grid.specs.declared.Band.{Band}
 use Rattle.grid.specs.Grid.{allowedWidth}
 use Rattle.request.specs.declared.Link.{Link}
-use Rattle.request.specs.View.{DemandView}
-use Rattle.request.specs.Check.{has, soundRoute}
-use Rattle.reading.specs.Reading.{bandIn, linkIn, demandIn}
+use Rattle.request.specs.View.{DemandView, widthOf}
+use Rattle.request.specs.Check.{has, soundRoute, knownAsked}
+use Rattle.reading.specs.Reading.{bandIn, linkIn, demandTag, demandIn}
 use Rattle.fields.specs.inner.Holds.{FieldHolds}
 
 -- what a sound link's field says: it is a whole field of 2 bytes, there is room for the link, and it has two nodes
@@ -22,7 +22,8 @@ pub record LinkHolds (s : List ℕ) (at count : ℕ) : Type 0 where
 pub record NewDemandHolds (S : ℕ) (links : List Link) (earlier : List ℕ) (d : DemandView) : Type 0 where
   pub room : length earlier < 200
   pub ident-new : has (d .ident) earlier ≡ false
-  pub width-allowed : allowedWidth S (d .width) ≡ true
+  pub asked-known : knownAsked (d .asked) ≡ true
+  pub width-allowed : allowedWidth S (widthOf d) ≡ true
   pub route-sound : soundRoute links (d .route) ≡ true
 
 -- the band's field at the front of a file
@@ -39,7 +40,7 @@ pub record LinkThere (s : List ℕ) (at : ℕ) (l : Link) (rest : List ℕ) : Ty
 
 -- a demand's field that stands at an offset
 pub record DemandThere (s : List ℕ) (at : ℕ) (d : DemandView) (rest : List ℕ) : Type 0 where
-  pub sound-field : FieldHolds s at 3 5 36
+  pub sound-field : FieldHolds s at (demandTag s at) 5 36
   pub same : demandIn s at ≡ d
   pub end-within : at + 7 + d .hops ≤ length s
   pub behind : drop (at + 7 + d .hops) s ≡ rest

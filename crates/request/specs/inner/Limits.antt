@@ -4,7 +4,7 @@ use mathlib.Core.Path.{_≡_}
 use lib.ListN.{length, getD}
 use Rattle.request.specs.declared.Demand.{Demand}
 use Rattle.request.specs.declared.Request.{Request}
-use Rattle.request.specs.View.{View, demandAt, noEntry}
+use Rattle.request.specs.View.{View, demandAt, noEntry, widthOf, viewDemand}
 
 -- of the request: its band, how many links and demands it has, and that its lists are that long
 pub record Limits (v : View) : Type 0 where
@@ -20,8 +20,8 @@ pub record Limits (v : View) : Type 0 where
 
 -- of a demand as an array holds it, in a band of S slots with so many links
 pub record DemandLimits (S linkCount : ℕ) (d : Demand) : Type 0 where
-  pub some-width : 1 ≤ d .width
-  pub most-width : d .width ≤ S
+  pub some-width : 1 ≤ widthOf (viewDemand d)
+  pub most-width : widthOf (viewDemand d) ≤ S
   pub some-hop : 1 ≤ d .hops
   pub most-hops : d .hops ≤ 32
   pub all-hops : length (d .links) ≡ 32

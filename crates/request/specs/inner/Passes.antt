@@ -5,12 +5,13 @@ use mathlib.Core.List.{List}
 use mathlib.Core.Path.{_≡_}
 use Rattle.grid.specs.Grid.{allowedWidth}
 use Rattle.request.specs.declared.Link.{Link}
-use Rattle.request.specs.View.{DemandView}
-use Rattle.request.specs.Check.{has, allowedHops, soundRoute}
+use Rattle.request.specs.View.{DemandView, widthOf}
+use Rattle.request.specs.Check.{has, allowedHops, soundRoute, knownAsked}
 
--- a new ident, an allowed width, an allowed route length, a sound route
+-- a new ident, a rate in the table if it asks for one, an allowed width, an allowed route length, a sound route
 pub record Passes (S : ℕ) (links : List Link) (earlier : List ℕ) (d : DemandView) : Type 0 where
   pub ident-new : has (d .ident) earlier ≡ false
-  pub width-allowed : allowedWidth S (d .width) ≡ true
+  pub asked-known : knownAsked (d .asked) ≡ true
+  pub width-allowed : allowedWidth S (widthOf d) ≡ true
   pub hops-allowed : allowedHops (d .hops) ≡ true
   pub route-sound : soundRoute links (d .route) ≡ true

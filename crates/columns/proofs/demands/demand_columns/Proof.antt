@@ -1,37 +1,62 @@
 -- `columns::demands::demand_columns` meets its contract. Assumes nothing.
-use mathlib.Core.Path.{_≡_, sym, _∙_}
+use Prim.Native.Nat.{_≤_}
+use mathlib.Core.List.{List·Memᴰ·head, List·Memᴰ·tail}
+use mathlib.Core.Path.{_≡_, refl, sym, ap, _∙_}
 use borrow.Author.Needs.{needs}
-use denote.Ref.{now}
 use lib.ListN.{length}
-use Rattle.request.specs.declared.Checked.the-variants.{Sound}
+use Rattle.request.specs.declared.Checked.the-variants.{Sound, Refused}
 use Rattle.request.specs.View.{view}
 use Rattle.request.specs.Check.{check}
 use Rattle.request.specs.inner.Limits.{Limits}
 use Rattle.request.specs.LimitsLaws.{checked-limits}
 use Rattle.request.proofs.Arrays.{whole}
-use Rattle.lent.specs.Lent.{checkRoom}
-use Rattle.lent.specs.LentLaws.{room-held}
-use Rattle.columns.specs.ColumnsLaws.{demands-unsound, no-idents, demands-fit, demands-refused, demands-written}
+use Rattle.lent.specs.Lent.{checkRooms}
+use Rattle.lent.specs.LentLaws.{rooms-held}
+use Rattle.columns.specs.Columns.{DemandBuffers, demandRooms, demandsOver, checkDemandColumns}
+use Rattle.columns.specs.ColumnsLaws.{demands-unsound, demands-fit, demands-refused, demands-written}
 use Rattle.columns.proofs.demands.demand_columns.Statement.{statement}
 use Rattle.columns.proofs.demands.demand_columns.Tie as tie
 
--- the request passed its test
-sound : (c : tie.After-enum-told) → check (view (c .before .before .before .before .before .args .request)) ≡ Sound
+-- the buffers as they are lent
+abbrev lent : tie.Start → DemandBuffers
+lent start = record { idents = start .args .idents .now; widths = start .args .widths .now; rates = start .args .rates .now }
+
+-- where the request passed its test
+abbrev start : tie.After-enum-told → tie.Start
+start c = c .before .before .before .before .before .before
+
+-- it is sound
+sound : (c : tie.After-enum-told) → check (view (start c .args .request)) ≡ Sound
 sound c = sym (c .before .before .check-request .ensures) ∙ c .enum-told .given .1
 
 -- so it keeps its limits
-limits : (c : tie.After-enum-told) → Limits (view (c .before .before .before .before .before .args .request))
-limits c = checked-limits (c .before .before .before .before .before .args .request) (whole (c .before .before .before .before .before .args .request) _ (c .before .before .before .before .before .good .0)) (sound c)
+limits : (c : tie.After-enum-told) → Limits (view (start c .args .request))
+limits c = checked-limits (start c .args .request) (whole (start c .args .request) _ (start c .good .0)) (sound c)
 
--- there is room for the idents
-idents-fit : (c : tie.After-enum-told2) → checkRoom (view (c .before .before .before .before .before .before .before .before .args .request) .demandCount) (length (now (c .before .before .before .before .before .before .before .before .args .idents))) ≡ Sound
-unfolding view
-idents-fit c = sym (c .before .before .check-room .ensures) ∙ c .enum-told2 .given .1
+-- where the buffers passed theirs
+abbrev before : tie.After-enum-told2 → tie.After-enum-told
+before c = c .before .before .before .before
 
--- and for the widths
-widths-fit : (c : tie.After-enum-told3) → checkRoom (view (c .before .before .before .before .before .before .before .before .before .before .before .args .request) .demandCount) (length (now (c .before .before .before .before .before .before .before .before .before .before .before .args .widths))) ≡ Sound
-unfolding view
-widths-fit c = sym (c .before .before .check-room2 .ensures) ∙ c .enum-told3 .given .1
+roomy : (c : tie.After-enum-told2) → checkRooms (view (start (before c) .args .request) .demandCount) (demandRooms (lent (start (before c)))) ≡ Sound
+unfolding view demandRooms
+roomy c = sym (c .before .before .check-rooms .ensures) ∙ c .enum-told2 .given .1
+
+tested : (c : tie.After-enum-told2) → checkDemandColumns (view (start (before c) .args .request)) (demandRooms (lent (start (before c)))) ≡ Sound
+tested c = demands-fit (view (start (before c) .args .request)) (demandRooms (lent (start (before c)))) (sound (before c)) ∙ roomy c
+
+-- each buffer has room
+rooms : (c : tie.After-enum-told2) →
+    (view (start (before c) .args .request) .demandCount ≤ length (start (before c) .args .idents .now))
+    × (view (start (before c) .args .request) .demandCount ≤ length (start (before c) .args .widths .now))
+    × (view (start (before c) .args .request) .demandCount ≤ length (start (before c) .args .rates .now))
+unfolding demandRooms
+rooms c =
+    let a = start (before c) .args in
+    let held = rooms-held (view (a .request) .demandCount) (demandRooms (lent (start (before c)))) (roomy c) in (
+      held (length (a .idents .now)) (List·Memᴰ·head refl),
+      held (length (a .widths .now)) (List·Memᴰ·tail (List·Memᴰ·head refl)),
+      held (length (a .rates .now)) (List·Memᴰ·tail (List·Memᴰ·tail (List·Memᴰ·head refl))),
+    )
 
 check-request-requires : tie.Need-check-request-requires
 check-request-requires c κs = search needs
@@ -41,57 +66,48 @@ enum-known-answer c = search needs
 
 returns : tie.Need-returns
 returns c =
-    let a = c .before .before .before .before .before .before .args in
-    let v = view (a .request) in
+    let begin = c .before .before .before .before .before .before .before in
+    let v = view (begin .args .request) in
     let fault = sym (c .before .before .before .check-request .ensures) ∙ c .before .answer .given .1 in
-    demands-refused v (now (a .idents)) (now (a .widths)) _ (demands-unsound v (length (now (a .idents))) (length (now (a .widths))) _ fault)
+    let told = demands-refused v (lent begin) _ (demands-unsound v (demandRooms (lent begin)) _ fault) in
+    (told .0, (ap (λ (b : DemandBuffers). b .idents) (told .1), (ap (λ (b : DemandBuffers). b .widths) (told .1), ap (λ (b : DemandBuffers). b .rates) (told .1))))
 
 enum-told : tie.Need-enum-told
 enum-told c = search needs
 
-check-room-requires : tie.Need-check-room-requires
-check-room-requires c κs = search needs
+slice-aggregate-check-rooms : tie.Need-slice-aggregate-check-rooms
+slice-aggregate-check-rooms c = search needs
 
-enum-known-idents-room : tie.Need-enum-known-idents-room
-enum-known-idents-room c = search needs
+check-rooms-requires : tie.Need-check-rooms-requires
+check-rooms-requires c κs = search needs
+
+enum-known-roomy : tie.Need-enum-known-roomy
+enum-known-roomy c = search needs
 
 returns-2 : tie.Need-returns-2
-unfolding view
+unfolding view demandRooms
 returns-2 c =
-    let a = c .before .before .before .before .before .before .before .before .before .args in
-    let v = view (a .request) in
-    let short = sym (c .before .before .before .check-room .ensures) ∙ c .before .idents-room .given .1 in
-    demands-refused v (now (a .idents)) (now (a .widths)) _
-    (no-idents v (length (now (a .idents))) (length (now (a .widths))) (v .demandCount) (sound (c .before .before .before .before)) (limits (c .before .before .before .before) .demands-there) _ short)
+    let begin = c .before .before .before .before .before .before .before .before .before .before .before in
+    let v = view (begin .args .request) in
+    let short : checkDemandColumns v (demandRooms (lent begin)) ≡ Refused (c .before .roomy .given .0 .0)
+    = demands-fit v (demandRooms (lent begin)) (sound (c .before .before .before .before .before)) ∙ sym (c .before .before .before .check-rooms .ensures) ∙ c .before .roomy .given .1 in
+    let told = demands-refused v (lent begin) _ short in
+    (told .0, (ap (λ (b : DemandBuffers). b .idents) (told .1), (ap (λ (b : DemandBuffers). b .widths) (told .1), ap (λ (b : DemandBuffers). b .rates) (told .1))))
 
 enum-told-2 : tie.Need-enum-told-2
 enum-told-2 c = search needs
 
-check-room-requires-2 : tie.Need-check-room-requires-2
-check-room-requires-2 c κs = search needs
-
-enum-known-widths-room : tie.Need-enum-known-widths-room
-enum-known-widths-room c = search needs
-
-returns-3 : tie.Need-returns-3
-unfolding view
-returns-3 c =
-    let a = c .before .before .before .before .before .before .before .before .before .before .before .before .args in
-    let v = view (a .request) in
-    let short = sym (c .before .before .before .check-room2 .ensures) ∙ c .before .widths-room .given .1 in
-    demands-refused v (now (a .idents)) (now (a .widths)) _
-    (demands-fit v (length (now (a .idents))) (length (now (a .widths))) (v .demandCount) (sound (c .before .before .before .before .before .before .before)) (limits (c .before .before .before .before .before .before .before) .demands-there) _ (idents-fit (c .before .before .before .before)) short)
-
-enum-told-3 : tie.Need-enum-told-3
-enum-told-3 c = search needs
-
 write-idents-requires : tie.Need-write-idents-requires
 unfolding view
-write-idents-requires c κs = (limits (c .before .before .before .before .before .before .before) .most-demands, room-held _ _ (idents-fit (c .before .before .before .before)))
+write-idents-requires c κs = (limits (before (c .before)) .most-demands, rooms (c .before) .0)
 
 write-widths-requires : tie.Need-write-widths-requires
 unfolding view
-write-widths-requires c κs = (limits (c .before .before .before .before .before .before .before .before .before .before .before) .most-demands, room-held _ _ (widths-fit (c .before .before .before .before .before)))
+write-widths-requires c κs = (limits (before (c .before .before .before .before .before)) .most-demands, rooms (c .before .before .before .before .before) .1)
+
+write-rates-requires : tie.Need-write-rates-requires
+unfolding view
+write-rates-requires c κs = (limits (before (c .before .before .before .before .before .before .before .before .before)) .most-demands, rooms (c .before .before .before .before .before .before .before .before .before) .2)
 
 same-length : tie.Need-same-length
 same-length c = search needs
@@ -99,14 +115,24 @@ same-length c = search needs
 same-length-2 : tie.Need-same-length-2
 same-length-2 c = search needs
 
-returns-4 : tie.Need-returns-4
-unfolding view
-returns-4 c =
-    let a = c .before .before .before .before .before .before .before .before .before .before .before .before .before .before .before .before .before .before .before .args in
-    let v = view (a .request) in
-    let told = demands-written v (now (a .idents)) (now (a .widths))
-    (demands-fit v (length (now (a .idents))) (length (now (a .widths))) (v .demandCount) (sound (c .before .before .before .before .before .before .before .before .before .before .before .before .before .before)) (limits (c .before .before .before .before .before .before .before .before .before .before .before .before .before .before) .demands-there) Sound (idents-fit (c .before .before .before .before .before .before .before .before .before .before .before)) (widths-fit (c .before .before .before .before .before .before .before .before))) in
-    (told .0, (c .before .before .before .before .before .before .write-idents .ensures ∙ told .1 .0, c .before .before .write-widths .ensures ∙ told .1 .1))
+same-length-3 : tie.Need-same-length-3
+same-length-3 c = search needs
+
+returns-3 : tie.Need-returns-3
+unfolding view demandsOver
+returns-3 c =
+    let passed = c .before .before .before .before .before .before .before .before .before .before .before .before in
+    let begin = start (before passed) in
+    let told = demands-written (view (begin .args .request)) (lent begin) (tested passed) in (
+      told .0,
+      (
+        c .before .before .before .before .before .before .before .before .before .before .write-idents .ensures ∙ ap (λ (b : DemandBuffers). b .idents) (told .1),
+        (
+          c .before .before .before .before .before .before .write-widths .ensures ∙ ap (λ (b : DemandBuffers). b .widths) (told .1),
+          c .before .before .write-rates .ensures ∙ ap (λ (b : DemandBuffers). b .rates) (told .1),
+        ),
+      ),
+    )
 
 pub demand-columns-spec : {M : Type 1} → statement M
 demand-columns-spec =
@@ -116,16 +142,15 @@ demand-columns-spec =
     enum-known-answer
     returns
     enum-told
-    check-room-requires
-    enum-known-idents-room
+    slice-aggregate-check-rooms
+    check-rooms-requires
+    enum-known-roomy
     returns-2
     enum-told-2
-    check-room-requires-2
-    enum-known-widths-room
-    returns-3
-    enum-told-3
     write-idents-requires
     write-widths-requires
+    write-rates-requires
     same-length
     same-length-2
-    returns-4)
+    same-length-3
+    returns-3)

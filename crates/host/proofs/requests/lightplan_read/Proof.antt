@@ -1,24 +1,28 @@
 -- `host::requests::lightplan_read` meets its contract. Assumes nothing.
 use mathlib.Core.Path.{_≡_, sym, ap, _∙_}
-use lib.ListN.{length}
 use Rattle.request.specs.View.{view}
 use Rattle.reading.specs.Reading.{FileReading, refused, accepted, readFile}
+use Rattle.columns.specs.Columns.{DemandBuffers, demandRooms}
 use Rattle.host.specs.HostLaws.{file-refused, file-accepted, bytes-known}
 use Rattle.request.specs.declared.Written.{Written}
-use Rattle.host.specs.Host.{requestAfter, requestEntry, identsRead, widthsRead}
+use Rattle.host.specs.Host.{requestAfter, requestEntry, demandsRead}
 use borrow.Author.Needs.{needs}
 use Rattle.host.proofs.requests.lightplan_read.Statement.{statement}
 use Rattle.host.proofs.requests.lightplan_read.Tie as tie
 
+-- the buffers as they are lent
+abbrev lent : tie.Start → DemandBuffers
+lent start = record { idents = start .args .idents .now; widths = start .args .widths .now; rates = start .args .rates .now }
+
 -- where the reading is sound, the file is accepted as the request read
-request-read : (c : tie.After-enum-told) → readFile (c .before .before .before .before .before .before .before .args .file .now) ≡ accepted (view (c .before .before .before .read-request .result .request))
+request-read : (c : tie.After-enum-told) → readFile (c .before .before .before .before .before .before .before .before .args .file .now) ≡ accepted (view (c .before .before .before .read-request .result .request))
 request-read c =
-    file-accepted (c .before .before .before .before .before .before .before .args .file .now) (c .before .before .before .read-request .result) (bytes-known _ (c .before .before .before .before .before .before .shared-slice-known .given)) (c .before .before .before .read-request .ensures) (c .enum-told .given .1)
+    file-accepted (c .before .before .before .before .before .before .before .before .args .file .now) (c .before .before .before .read-request .result) (bytes-known _ (c .before .before .before .before .before .before .before .shared-slice-known .given)) (c .before .before .before .read-request .ensures) (c .enum-told .given .1)
 
 -- where it is refused, so is the file
-no-request : (c : tie.After-known-told) → readFile (c .before .before .before .before .before .before .before .before .args .file .now) ≡ refused (c .before .verdict .given .0 .0)
+no-request : (c : tie.After-known-told) → readFile (c .before .before .before .before .before .before .before .before .before .args .file .now) ≡ refused (c .before .verdict .given .0 .0)
 no-request c =
-    file-refused (c .before .before .before .before .before .before .before .before .args .file .now) (c .before .before .before .before .read-request .result) (c .before .verdict .given .0 .0) (c .before .before .before .before .read-request .ensures) (c .before .verdict .given .1)
+    file-refused (c .before .before .before .before .before .before .before .before .before .args .file .now) (c .before .before .before .before .read-request .result) (c .before .verdict .given .0 .0) (c .before .before .before .before .read-request .ensures) (c .before .verdict .given .1)
 
 read-request-requires : tie.Need-read-request-requires
 read-request-requires c κs = search needs
@@ -30,14 +34,14 @@ request-refused-requires : tie.Need-request-refused-requires
 request-refused-requires c κs = search needs
 
 returns : tie.Need-returns
-unfolding requestEntry identsRead widthsRead
+unfolding requestEntry demandsRead
 returns c =
-    let a = c .before .before .before .before .before .before .before .before .before .args in
+    let start = c .before .before .before .before .before .before .before .before .before .before in
     let read = sym (no-request (c .before)) in (
-      c .request-refused .ensures ∙ ap (λ (file : FileReading). requestEntry file (length (a .idents .now)) (length (a .widths .now))) read,
+      c .request-refused .ensures ∙ ap (λ (file : FileReading). requestEntry file (demandRooms (lent start))) read,
       (
-        ap (λ (file : FileReading). identsRead file (a .idents .now) (a .widths .now)) read,
-        ap (λ (file : FileReading). widthsRead file (a .idents .now) (a .widths .now)) read,
+        ap (λ (file : FileReading). demandsRead file (lent start) .idents) read,
+        (ap (λ (file : FileReading). demandsRead file (lent start) .widths) read, ap (λ (file : FileReading). demandsRead file (lent start) .rates) read),
       ),
     )
 
@@ -59,18 +63,24 @@ same-length c = search needs
 same-length-2 : tie.Need-same-length-2
 same-length-2 c = search needs
 
+same-length-3 : tie.Need-same-length-3
+same-length-3 c = search needs
+
 returns-2 : tie.Need-returns-2
-unfolding requestAfter requestEntry identsRead widthsRead
+unfolding requestAfter requestEntry demandsRead
 returns-2 c =
-    let a = c .before .before .before .before .before .before .before .before .before .before .before .before .before .before .before .before .before .before .args in
-    let v = view (c .before .before .before .before .before .before .before .before .before .before .before .before .before .before .read-request .result .request) in
-    let written = c .before .before .before .before .before .before .before .before .demand-columns in
-    let read = sym (request-read (c .before .before .before .before .before .before .before .before .before .before .before)) in (
+    let start = c .before .before .before .before .before .before .before .before .before .before .before .before .before .before .before .before .before .before .before .before .before .before in
+    let v = view (c .before .before .before .before .before .before .before .before .before .before .before .before .before .before .before .before .before .read-request .result .request) in
+    let written = c .before .before .before .before .before .before .before .before .before .before .demand-columns in
+    let read = sym (request-read (c .before .before .before .before .before .before .before .before .before .before .before .before .before .before)) in (
       c .request-refused2 .ensures ∙ (ap (λ (w : Written). requestAfter w v) (sym (c .before .before .written .given .1) ∙ written .ensures .0)
-          ∙ ap (λ (file : FileReading). requestEntry file (length (a .idents .now)) (length (a .widths .now))) read),
+          ∙ ap (λ (file : FileReading). requestEntry file (demandRooms (lent start))) read),
       (
-        written .ensures .1 .0 ∙ ap (λ (file : FileReading). identsRead file (a .idents .now) (a .widths .now)) read,
-        written .ensures .1 .1 ∙ ap (λ (file : FileReading). widthsRead file (a .idents .now) (a .widths .now)) read,
+        written .ensures .1 .0 ∙ ap (λ (file : FileReading). demandsRead file (lent start) .idents) read,
+        (
+          written .ensures .1 .1 .0 ∙ ap (λ (file : FileReading). demandsRead file (lent start) .widths) read,
+          written .ensures .1 .1 .1 ∙ ap (λ (file : FileReading). demandsRead file (lent start) .rates) read,
+        ),
       ),
     )
 
@@ -80,24 +90,30 @@ enum-told-2 c = search needs
 request-told-requires : tie.Need-request-told-requires
 request-told-requires c κs = search needs
 
-same-length-3 : tie.Need-same-length-3
-same-length-3 c = search needs
-
 same-length-4 : tie.Need-same-length-4
 same-length-4 c = search needs
 
+same-length-5 : tie.Need-same-length-5
+same-length-5 c = search needs
+
+same-length-6 : tie.Need-same-length-6
+same-length-6 c = search needs
+
 returns-3 : tie.Need-returns-3
-unfolding requestAfter requestEntry identsRead widthsRead
+unfolding requestAfter requestEntry demandsRead
 returns-3 c =
-    let a = c .before .before .before .before .before .before .before .before .before .before .before .before .before .before .before .before .before .args in
-    let v = view (c .before .before .before .before .before .before .before .before .before .before .before .before .before .read-request .result .request) in
-    let written = c .before .before .before .before .before .before .before .demand-columns in
-    let read = sym (request-read (c .before .before .before .before .before .before .before .before .before .before)) in (
+    let start = c .before .before .before .before .before .before .before .before .before .before .before .before .before .before .before .before .before .before .before .before .before in
+    let v = view (c .before .before .before .before .before .before .before .before .before .before .before .before .before .before .before .before .read-request .result .request) in
+    let written = c .before .before .before .before .before .before .before .before .before .demand-columns in
+    let read = sym (request-read (c .before .before .before .before .before .before .before .before .before .before .before .before .before)) in (
       c .request-told .ensures ∙ (ap (λ (w : Written). requestAfter w v) (sym (c .before .enum-told2 .given .1) ∙ written .ensures .0)
-          ∙ ap (λ (file : FileReading). requestEntry file (length (a .idents .now)) (length (a .widths .now))) read),
+          ∙ ap (λ (file : FileReading). requestEntry file (demandRooms (lent start))) read),
       (
-        written .ensures .1 .0 ∙ ap (λ (file : FileReading). identsRead file (a .idents .now) (a .widths .now)) read,
-        written .ensures .1 .1 ∙ ap (λ (file : FileReading). widthsRead file (a .idents .now) (a .widths .now)) read,
+        written .ensures .1 .0 ∙ ap (λ (file : FileReading). demandsRead file (lent start) .idents) read,
+        (
+          written .ensures .1 .1 .0 ∙ ap (λ (file : FileReading). demandsRead file (lent start) .widths) read,
+          written .ensures .1 .1 .1 ∙ ap (λ (file : FileReading). demandsRead file (lent start) .rates) read,
+        ),
       ),
     )
 
@@ -115,9 +131,11 @@ lightplan-read-spec =
     request-refused-requires-2
     same-length
     same-length-2
+    same-length-3
     returns-2
     enum-told-2
     request-told-requires
-    same-length-3
     same-length-4
+    same-length-5
+    same-length-6
     returns-3)

@@ -1,7 +1,7 @@
 -- `meeting::need::link_need` meets its contract. Assumes nothing.
-use Prim.Native.Nat.{ℕ, _≤_, _<_, _-_, _*_}
+use Prim.Native.Nat.{ℕ, _≤_, _<_, _-_, _*_, _+_}
 use mathlib.Core.Logic.{⊎-elim}
-use mathlib.Core.Path.{_≡_, sym, _∙_}
+use mathlib.Core.Path.{_≡_, sym, _∙_, ap}
 use native.Mathlib.Omega.{arith}
 use borrow.Author.Needs.{needs}
 use lib.ListN.{length, getD}
@@ -42,6 +42,9 @@ mul-demand c = omega (arith, c .before .before .demands-asked .ensures .within)
 element-copy-out-demand : tie.Need-element-copy-out-demand Inv-loop μ-loop
 element-copy-out-demand c = omega (arith, c .before .before .demands-asked .ensures .within)
 
+width-of-requires : tie.Need-width-of-requires Inv-loop μ-loop
+width-of-requires c κs = search needs
+
 on-link-requires : tie.Need-on-link-requires Inv-loop μ-loop
 on-link-requires c κs = search needs
 
@@ -50,17 +53,12 @@ cast-widths c = search needs
 
 add-widths : tie.Need-add-widths Inv-loop μ-loop
 add-widths c =
-    let width : Fits w16 (getD (c .before .before .before .before .before .before .before .args .t1 .demands) (c .before .before .before .before .before .loop .j) noEntry .width) = search needs in
+    let width : Fits w16 (c .before .before .width-of .result) = search needs in
     let few : c .before .before .before .before .before .loop .j < 200 = omega (arith, c .before .before .before .before .before .before .demands-asked .ensures .within) in
     omega (arith, width, c .before .before .before .before .before .loop .inv .1 .widths-fit)
 
 add-users : tie.Need-add-users Inv-loop μ-loop
-add-users c =
-    omega (
-      arith,
-      c .before .before .before .before .before .before .demands-asked .ensures .within,
-      c .before .before .before .before .before .loop .inv .1 .users-fit,
-    )
+add-users c = omega (arith, c .before .before .before .before .before .before .demands-asked .ensures .within, c .before .before .before .before .before .loop .inv .1 .users-fit)
 
 add-j : tie.Need-add-j Inv-loop μ-loop
 add-j c = search needs
@@ -70,18 +68,19 @@ loop-less c = omega arith
 
 loop-again : tie.Need-loop-again Inv-loop μ-loop
 loop-again c =
-    let q : Request = c .before .before .before .before .before .before .args .t1 in
-    let asked = c .before .before .before .before .before .demands-asked .ensures in
-    let at = c .before .before .before .before .loop in
-    let full = whole q _ (c .before .before .before .before .before .before .good .0) .all-demands in
+    let q : Request = c .before .before .before .before .before .before .before .args .t1 in
+    let asked = c .before .before .before .before .before .before .demands-asked .ensures in
+    let at = c .before .before .before .before .before .loop in
+    let full = whole q _ (c .before .before .before .before .before .before .before .good .0) .all-demands in
     let inside : at .j < length (view q .demands) = inside-view q asked (at .j) full (omega arith) in
+    let fits : Fits w16 (c .before .before .width-of .result) = search needs in
+    let width = c .before .before .width-of .ensures in
     let on = c .before .on-link .ensures in (
       omega arith,
       ⊎-elim
           (λ w.
-          let width : Fits w16 (getD (q .demands) (at .j) noEntry .width) = search needs in
           need-on q _ (at .j) (at .widths) (at .users) inside (at .inv .1) (c .if1 .widths) (c .if1 .users)
-          (sym on ∙ w .0 .taken) (omega (arith, width)) (w .2) (w .3))
+          (sym on ∙ w .0 .taken) (omega (arith, fits, width)) (w .1 ∙ ap (λ (n : ℕ). at .widths + n) width) (w .2))
           (λ w.
           need-off q _ (at .j) (at .widths) (at .users) inside (at .inv .1) (c .if1 .widths) (c .if1 .users)
           (sym on ∙ w .0 .left) (w .1) (w .2))
@@ -137,6 +136,7 @@ link-need-spec =
     loop-holds
     mul-demand
     element-copy-out-demand
+    width-of-requires
     on-link-requires
     cast-widths
     add-widths

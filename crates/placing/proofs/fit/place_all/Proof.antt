@@ -1,14 +1,13 @@
 -- `placing::fit::place_all` meets its contract. Assumes nothing.
 use Prim.Native.Nat.{ℕ, _+_, _-_, _≤_, _<_, max}
-use mathlib.Core.List.{List, []}
-use mathlib.Core.Path.{_≡_, refl, sym, ap, _∙_}
+use mathlib.Core.List.{[]}
+use mathlib.Core.Path.{_≡_, sym, ap, _∙_}
 use native.Mathlib.Omega.{arith}
 use borrow.Author.Needs.{needs}
-use lib.ListN.{length, getD, take, set}
+use lib.ListN.{length, getD, take}
 use Rattle.theory.specs.Problem.{fill}
-use Rattle.board.specs.declared.Placement.{Placement}
 use Rattle.board.specs.Board.{placedBeside}
-use Rattle.request.specs.View.{view, noEntry}
+use Rattle.request.specs.View.{view}
 use Rattle.request.specs.Sharing.{problemOf}
 use Rattle.placing.specs.inner.Placement.{BesideAsked, Sized, PlacedTo}
 use Rattle.placing.specs.BesideLaws.{board-same}
@@ -96,30 +95,34 @@ mul-demand c = omega (arith, here (c .before .before .before .before .before .be
 element-copy-out-demand : tie.Need-element-copy-out-demand Inv-loop μ-loop
 element-copy-out-demand c = here (c .before .before .before .before .before .before .before .before .before .before .before) (c .before .before .before .before .before .before .before .before .before .loop .k) (c .before .before .before .before .before .before .before .before .loop-test .taken) .position
 
+width-of-requires : tie.Need-width-of-requires Inv-loop μ-loop
+width-of-requires c κs = search needs
+
 -- the demand that was placed is at a listing position
-position : (c : tie.After-demand Inv-loop μ-loop) → getD (c .before .before .before .before .before .before .before .before .before .before .before .before .args .order .now) (c .before .before .before .before .before .before .before .before .before .before .loop .k) 0 < 200
-position c = here (c .before .before .before .before .before .before .before .before .before .before .before .before) (c .before .before .before .before .before .before .before .before .before .before .loop .k) (c .before .before .before .before .before .before .before .before .before .loop-test .taken) .position
+position : (c : tie.After-width-of Inv-loop μ-loop) → getD (c .before .before .before .before .before .before .before .before .before .before .before .before .before .args .order .now) (c .before .before .before .before .before .before .before .before .before .before .before .loop .k) 0 < 200
+position c = here (c .before .before .before .before .before .before .before .before .before .before .before .before .before) (c .before .before .before .before .before .before .before .before .before .before .before .loop .k) (c .before .before .before .before .before .before .before .before .before .before .loop-test .taken) .position
 
 -- it ends inside the band
-ends-inside : (c : tie.After-demand Inv-loop μ-loop) →
-    c .before .before .spot .given .0 .0 + getD (c .before .before .before .before .before .before .before .before .before .before .before .before .args .t1 .demands) (getD (c .before .before .before .before .before .before .before .before .before .before .before .before .args .order .now) (c .before .before .before .before .before .before .before .before .before .before .loop .k) 0) noEntry .width ≤ 384
+ends-inside : (c : tie.After-width-of Inv-loop μ-loop) →
+    c .before .before .before .spot .given .0 .0 + c .width-of .result ≤ 384
 ends-inside c =
-    let start = c .before .before .before .before .before .before .before .before .before .before .before .before in
-    let at = c .before .before .before .before .before .before .before .before .before .before .loop in
-    let inside = c .before .before .before .before .before .before .before .before .before .loop-test .taken in
+    let start = c .before .before .before .before .before .before .before .before .before .before .before .before .before in
+    let at = c .before .before .before .before .before .before .before .before .before .before .before .loop in
+    let inside = c .before .before .before .before .before .before .before .before .before .before .loop-test .taken in
     let small = here start (at .k) inside in
     omega (
       arith,
       small .slots-fit,
+      c .width-of .ensures,
       small .width-is,
       found-inside (view (start .args .t1)) (start .args .order .now) (at .k) (at .end) (at .at) (at .by) (at .ends) inside (start .pre .asked)
           (at .inv .1)
-          (c .before .before .before .before .before .place-beside .result)
-          (beside (c .before .before .before .before))
+          (c .before .before .before .before .before .before .place-beside .result)
+          (beside (c .before .before .before .before .before))
           _
-          (c .before .before .before .before .entry .ensures)
-          (c .before .before .spot .given .0 .0)
-          (sym (c .before .before .spot .given .1)),
+          (c .before .before .before .before .before .entry .ensures)
+          (c .before .before .before .spot .given .0 .0)
+          (sym (c .before .before .before .spot .given .1)),
     )
 
 mul-at : tie.Need-mul-at Inv-loop μ-loop
@@ -157,24 +160,24 @@ loop-less c = omega arith
 
 loop-again : tie.Need-loop-again Inv-loop μ-loop
 loop-again c =
-    let start = c .before .before .before .before .before .before .before .before .before .before .before .before .before in
-    let at = c .before .before .before .before .before .before .before .before .before .before .before .loop in
-    let inside = c .before .before .before .before .before .before .before .before .before .before .loop-test .taken in
+    let start = c .before .before .before .before .before .before .before .before .before .before .before .before .before .before in
+    let at = c .before .before .before .before .before .before .before .before .before .before .before .before .loop in
+    let inside = c .before .before .before .before .before .before .before .before .before .before .before .loop-test .taken in
     let v = view (start .args .t1) in
     let order = start .args .order .now in
     let i = getD order (at .k) 0 in
-    let width-is = here start (at .k) inside .width-is in
-    let s = c .before .before .before .spot .given .0 .0 in (
+    let width-is = c .before .width-of .ensures ∙ here start (at .k) inside .width-is in
+    let s = c .before .before .before .before .spot .given .0 .0 in (
       omega arith,
       rw (← width-is) at
           (placed-more v order (at .k) (at .end) (at .at) (at .by) (at .ends) inside (start .pre .asked) (at .inv .1)
-          (c .before .before .before .before .before .before .place-beside .result)
-          (beside (c .before .before .before .before .before))
+          (c .before .before .before .before .before .before .before .place-beside .result)
+          (beside (c .before .before .before .before .before .before))
           _
-          (c .before .before .before .before .before .entry .ensures)
+          (c .before .before .before .before .before .before .entry .ensures)
           s
           (c .higher .result)
-          (sym (c .before .before .before .spot .given .1))
+          (sym (c .before .before .before .before .spot .given .1))
           (c .higher .ensures ∙ ap (λ (w : ℕ). max (at .end) (s + w)) width-is)),
     )
 
@@ -203,6 +206,7 @@ place-all-spec =
     returns
     mul-demand
     element-copy-out-demand
+    width-of-requires
     mul-at
     element-write-at
     mul-by

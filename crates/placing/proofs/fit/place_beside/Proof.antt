@@ -2,7 +2,7 @@
 use Prim.Native.Nat.{ℕ}
 use mathlib.Core.Bool.{Bool}
 use mathlib.Core.List.{List}
-use mathlib.Core.Path.{ap, ap₂, _∙_}
+use mathlib.Core.Path.{ap₂, _∙_}
 use native.Mathlib.Omega.{arith}
 use borrow.Author.Needs.{needs}
 use Rattle.request.specs.View.{view}
@@ -22,6 +22,9 @@ mul-demand c = omega (arith, here c .position)
 element-copy-out-demand : tie.Need-element-copy-out-demand
 element-copy-out-demand c = here c .position
 
+width-of-requires : tie.Need-width-of-requires
+width-of-requires c κs = search needs
+
 meeting-row-requires : tie.Need-meeting-row-requires
 meeting-row-requires c κs = search needs
 
@@ -34,13 +37,13 @@ place-one-requires c κs = search needs
 returns : tie.Need-returns
 unfolding view
 returns c =
-    let a = c .before .before .before .before .before .args in
+    let a = c .before .before .before .before .before .before .args in
     c .place-one .ensures
     ∙ ap₂
     (λ (row : List Bool) (w : ℕ). placedOne row (a .starts .now) (a .ends .now) (a .t1 .«demand_count») w (a .t1 .band .guard) (a .t1 .band .slots))
     (c .before .before .meeting-row .ensures)
-    (here (c .before .before .before .before .before) .width-is)
+    (c .before .before .before .before .width-of .ensures ∙ here (c .before .before .before .before .before .before) .width-is)
 
 pub place-beside-spec : {M : Type 1} → statement M
 place-beside-spec =
-    tie.close (tie.spec mul-demand element-copy-out-demand meeting-row-requires cast-place-one place-one-requires returns)
+    tie.close (tie.spec mul-demand element-copy-out-demand width-of-requires meeting-row-requires cast-place-one place-one-requires returns)

@@ -6,7 +6,7 @@ use native.Mathlib.Omega.{arith}
 use lib.ListN.{length}
 use borrow.Author.Needs.{needs}
 use Rattle.theory.specs.Problem.{fits}
-use Rattle.request.specs.View.{view, viewDemand, demandAt}
+use Rattle.request.specs.View.{view, viewDemand, demandAt, widthOf}
 use Rattle.request.specs.ViewLaws.{demands-shown, demand-shown, mapped-length}
 use Rattle.request.specs.Sharing.{shareLink, problemOf}
 use Rattle.meeting.specs.Plan.{startAt}
@@ -71,7 +71,7 @@ returns c =
     let j = c .before .before .before .before .before .before .loop .j in
     let all : _≡_ {A = ℕ} (length (request .demands)) 200 = search (mapped-length, needs) in
     let shown : length (v .demands) ≡ min (request .«demand_count») (length (request .demands)) = demands-shown request in
-    let answer : tooClose (v .band .guard) (startAt starts (j - 1)) (demandAt (v .demands) (j - 1) .width) (startAt starts k) (demandAt (v .demands) k .width)
+    let answer : tooClose (v .band .guard) (startAt starts (j - 1)) (widthOf (demandAt (v .demands) (j - 1))) (startAt starts k) (widthOf (demandAt (v .demands) k))
     && shareLink (demandAt (v .demands) (j - 1) .route) (demandAt (v .demands) k .route) ≡ true =
     rw (demand-shown request (j - 1) (omega arith), demand-shown request k (omega arith)) (sym (c .before .clash .ensures) ∙ c .if1 .taken) in
     let meets = close-clash v (j - 1) (startAt starts (j - 1)) k (startAt starts k) answer in
@@ -94,7 +94,7 @@ loop-again c =
     let j = c .before .before .before .before .before .before .loop .j in
     let all : _≡_ {A = ℕ} (length (request .demands)) 200 = search (mapped-length, needs) in
     let shown : length (v .demands) ≡ min (request .«demand_count») (length (request .demands)) = demands-shown request in
-    let answer : tooClose (v .band .guard) (startAt starts (j - 1)) (demandAt (v .demands) (j - 1) .width) (startAt starts k) (demandAt (v .demands) k .width)
+    let answer : tooClose (v .band .guard) (startAt starts (j - 1)) (widthOf (demandAt (v .demands) (j - 1))) (startAt starts k) (widthOf (demandAt (v .demands) k))
     && shareLink (demandAt (v .demands) (j - 1) .route) (demandAt (v .demands) k .route) ≡ false =
     rw (demand-shown request (j - 1) (omega arith), demand-shown request k (omega arith)) (sym (c .before .clash .ensures) ∙ c .if1 .left) in
     let clear = not-close-apart v (j - 1) (startAt starts (j - 1)) k (startAt starts k) answer in

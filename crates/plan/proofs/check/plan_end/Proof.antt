@@ -7,7 +7,7 @@ use mir.Syntax.{w16}
 use mir.Val.{Fits}
 use lib.ListN.{length, drop}
 use borrow.Author.Needs.{needs}
-use Rattle.request.specs.View.{DemandView, view, viewDemand}
+use Rattle.request.specs.View.{view, viewDemand, widthOf}
 use Rattle.request.specs.ViewLaws.{demands-shown, demand-shown, mapped-length}
 use Rattle.meeting.specs.Plan.{startAt, endFrom, endOfPlan}
 use Rattle.plan.specs.CheckStartsLaws.{each-within}
@@ -31,6 +31,9 @@ mul-demand c = search needs
 element-copy-out-demand : tie.Need-element-copy-out-demand Inv-loop μ-loop
 element-copy-out-demand c = search needs
 
+width-of-requires : tie.Need-width-of-requires Inv-loop μ-loop
+width-of-requires c κs = search needs
+
 mul-own : tie.Need-mul-own Inv-loop μ-loop
 mul-own c = search needs
 
@@ -40,16 +43,16 @@ shared-slice-read-own c = search needs
 add-own : tie.Need-add-own Inv-loop μ-loop
 unfolding startAt viewDemand
 add-own c =
-    let request = c .before .before .before .before .before .args .t1 in
-    let starts = c .before .before .before .before .before .args .starts .now in
+    let request = c .before .before .before .before .before .before .args .t1 in
+    let starts = c .before .before .before .before .before .before .args .starts .now in
     let v = view request in
     let k = c .before .before .before .before .loop .k in
     let all : _≡_ {A = ℕ} (length (request .demands)) 200 = search (mapped-length, needs) in
     let shown : length (v .demands) ≡ min (request .«demand_count») (length (request .demands)) = demands-shown request in
     let here = demand-shown request k (omega arith) in
-    let within = each-within (request .band .slots) starts (v .demands) (c .before .before .before .before .before .pre .1 .1) k (omega arith) in
+    let within = each-within (request .band .slots) starts (v .demands) (c .before .before .before .before .before .before .pre .1 .1) k (omega arith) in
     let slots : Fits w16 (request .band .slots) = search needs in
-    omega (arith, within, ap (λ (d : DemandView). d .width) here, slots)
+    omega (arith, within, c .before .width-of .ensures, ap widthOf here, slots)
 
 add-k : tie.Need-add-k Inv-loop μ-loop
 add-k c = search needs
@@ -60,13 +63,13 @@ loop-less c = omega arith
 loop-again : tie.Need-loop-again Inv-loop μ-loop
 unfolding startAt viewDemand
 loop-again c =
-    let request = c .before .before .before .before .before .before .args .t1 in
-    let starts = c .before .before .before .before .before .before .args .starts .now in
+    let request = c .before .before .before .before .before .before .before .args .t1 in
+    let starts = c .before .before .before .before .before .before .before .args .starts .now in
     let v = view request in
     let k = c .before .before .before .before .before .loop .k in
     let all : _≡_ {A = ℕ} (length (request .demands)) 200 = search (mapped-length, needs) in
     let shown : length (v .demands) ≡ min (request .«demand_count») (length (request .demands)) = demands-shown request in
-    let here = ap (λ (d : DemandView). d .width) (demand-shown request k (omega arith)) in
+    let here = ap widthOf (demand-shown request k (omega arith)) ∙ sym (c .before .before .width-of .ensures) in
     let turn = end-turn starts (v .demands) k (omega arith) in
     let so-far = c .before .before .before .before .before .loop .inv .1 in
     (omega arith, ⊎-elim (λ w. omega (arith, turn, here, so-far)) (λ w. omega (arith, turn, here, so-far)) (c .if1 .came))
@@ -74,8 +77,8 @@ loop-again c =
 returns : tie.Need-returns Inv-loop μ-loop
 unfolding endOfPlan
 returns c =
-    let request = c .before .before .args .t1 in
-    let starts = c .before .before .args .starts .now in
+    let request = c .before .before .before .args .t1 in
+    let starts = c .before .before .before .args .starts .now in
     let v = view request in
     let k = c .before .loop .k in
     let all : _≡_ {A = ℕ} (length (request .demands)) 200 = search (mapped-length, needs) in
@@ -91,6 +94,7 @@ plan-end-spec =
     loop-holds
     mul-demand
     element-copy-out-demand
+    width-of-requires
     mul-own
     shared-slice-read-own
     add-own

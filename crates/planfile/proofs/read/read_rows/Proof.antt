@@ -4,14 +4,14 @@ use mathlib.Core.Path.{ap₂, _≡_, refl, sym, ap, subst, _∙_}
 use mathlib.Core.Bool.{Bool, true, false}
 use mathlib.Core.List.{List}
 use native.Mathlib.Omega.{arith}
-use lib.ListN.{take, getD, length, set, length-set}
+use lib.ListN.{take, length, set, length-set}
 use lib.Seq.{length-take-le}
 use borrow.Author.Needs.{needs}
 use borrow.Author.Tests.{leb-true, leb-false}
 use Rattle.refusal.specs.declared.Refusal.the-variants.{UnknownIdent, IdentSeen, EndAbove}
 use Rattle.grid.specs.ReplyLaws.{passed-by, refused-by}
 use Rattle.request.specs.declared.Checked.the-variants.{Sound}
-use Rattle.request.specs.View.{DemandView, view, viewDemand, demandAt}
+use Rattle.request.specs.View.{DemandView, view, viewDemand, demandAt, widthOf}
 use Rattle.request.specs.ViewLaws.{demands-shown, demand-shown}
 use Rattle.fields.specs.Field.{checkField}
 use Rattle.request.proofs.Arrays.{whole}
@@ -151,6 +151,9 @@ mul-demand c = search needs
 element-copy-out-demand : tie.Need-element-copy-out-demand Inv-loop μ-loop
 element-copy-out-demand c = search needs
 
+width-of-requires : tie.Need-width-of-requires Inv-loop μ-loop
+width-of-requires c κs = search needs
+
 cast-end-within : tie.Need-cast-end-within Inv-loop μ-loop
 cast-end-within c = search needs
 
@@ -163,6 +166,54 @@ no-rows-requires-4 c κs = search needs
 returns-4 : tie.Need-returns-4 Inv-loop μ-loop
 unfolding view viewDemand rowIn
 returns-4 c =
+    let request = c .before .before .before .before .before .before .before .before .before .before .before .before .before .before .before .before .before .before .args .t1 in
+    let s = c .before .before .before .before .before .before .before .before .before .before .before .before .before .before .before .before .before .before .args .file .now in
+    let v = view request in
+    let at = c .before .before .before .before .before .before .before .before .before .before .before .before .before .before .before .loop .at in
+    let given = c .before .before .before .before .before .before .before .before .before .before .before .before .before .before .before .loop .given in
+    let starts = c .before .before .before .before .before .before .before .before .before .before .before .before .before .before .before .loop .starts in
+    let so-far = c .before .before .before .before .before .before .before .before .before .before .before .before .before .before .before .loop .inv .0 in
+    let rows = so-far .rows in
+    let more : at ≡ length s → ⊥ = below at (length s) (c .before .before .before .before .before .before .before .before .before .before .before .before .before .before .loop-test .taken) in
+    let field : checkField s at 4 4 4 ≡ Sound = sym (c .before .before .before .before .before .before .before .before .before .before .before .before .before .check-field .ensures) ∙ c .before .before .before .before .before .before .before .before .before .before .before .enum-told .given .1 in
+    let all = whole request _ (c .before .before .before .before .before .before .before .before .before .before .before .before .before .before .before .before .before .before .good .0) .all-demands in
+    let shown : length (v .demands) ≡ min (request .«demand_count») (length (request .demands)) = demands-shown request in
+    let counted : request .«demand_count» ≡ length (v .demands) = omega arith in
+    let who = c .before .before .before .before .before .before .before .before .position-of .result in
+    let found = subst (λ (n : ℕ). who ≡ positionOf (c .before .before .before .before .before .before .before .before .before .before .number-in .result) (take n (c .before .before .before .before .before .before .before .before .before .before .before .before .before .before .before .before .idents-of .result))) counted (c .before .before .before .before .before .before .before .before .position-of .ensures) in
+    let is-who = row-who v s at (c .before .before .before .before .before .before .before .before .before .before .before .before .before .before .before .before .idents-of .result) (c .before .before .before .before .before .before .before .before .before .before .number-in .result) who (c .before .before .before .before .before .before .before .before .before .before .before .before .before .before .before .before .idents-of .ensures) (c .before .before .before .before .before .before .before .before .before .before .number-in .ensures) found in
+    let here : rowIn v s at .who < length (v .demands) = omega (arith, is-who, counted, c .before .before .before .before .before .before .before .if1 .left) in
+    let new = subst (λ (k : ℕ). given-in rows k ≡ false) (sym is-who) (given-at rows given who false (so-far .given-held) (omega arith) (c .before .before .before .before .before .before .if2 .left)) in
+    let start = c .before .before .before .before .before .number-in2 .result in
+    let width = ap (λ (d : DemandView). widthOf d) (ap (demandAt (v .demands)) is-who ∙ demand-shown request who (omega arith)) in
+    let end : request .band .slots < start + c .before .before .before .width-of .result = leb-false _ _ (refused-by (c .before .before .end-within .ensures) (c .before .if3 .taken)) in
+    c .no-rows4 .ensures ∙ ap packRows (sym (so-far-refused v s at given starts (c .before .before .before .before .before .before .before .before .before .before .before .before .before .before .before .before .before .before .pre .1) so-far (EndAbove at) more
+    (row-decides v s at rows field ∙ row-above v at rows (rowIn v s at) here new (omega (arith, width, c .before .before .before .width-of .ensures, end, c .before .before .before .before .before .number-in2 .ensures)))))
+
+array-write-given : tie.Need-array-write-given Inv-loop μ-loop
+array-write-given c = search needs
+
+mul-starts : tie.Need-mul-starts Inv-loop μ-loop
+mul-starts c = search needs
+
+array-write-starts : tie.Need-array-write-starts Inv-loop μ-loop
+array-write-starts c = search needs
+
+add-at : tie.Need-add-at Inv-loop μ-loop
+add-at c =
+    let field : checkField (c .before .before .before .before .before .before .before .before .before .before .before .before .before .before .before .before .before .args .file .now) (c .before .before .before .before .before .before .before .before .before .before .before .before .before .before .loop .at) 4 4 4 ≡ Sound = sym (c .before .before .before .before .before .before .before .before .before .before .before .before .check-field .ensures) ∙ c .before .before .before .before .before .before .before .before .before .before .enum-told .given .1 in
+    let ends = row-end (c .before .before .before .before .before .before .before .before .before .before .before .before .before .before .before .before .before .args .file .now) (c .before .before .before .before .before .before .before .before .before .before .before .before .before .before .loop .at) (field-holds (c .before .before .before .before .before .before .before .before .before .before .before .before .before .before .before .before .before .args .file .now) (c .before .before .before .before .before .before .before .before .before .before .before .before .before .before .loop .at) 4 4 4 field) in
+    omega (arith, ends)
+
+loop-less : tie.Need-loop-less Inv-loop μ-loop
+loop-less c =
+    let field : checkField (c .before .before .before .before .before .before .before .before .before .before .before .before .before .before .before .before .before .args .file .now) (c .before .before .before .before .before .before .before .before .before .before .before .before .before .before .loop .at) 4 4 4 ≡ Sound = sym (c .before .before .before .before .before .before .before .before .before .before .before .before .check-field .ensures) ∙ c .before .before .before .before .before .before .before .before .before .before .enum-told .given .1 in
+    let ends = row-end (c .before .before .before .before .before .before .before .before .before .before .before .before .before .before .before .before .before .args .file .now) (c .before .before .before .before .before .before .before .before .before .before .before .before .before .before .loop .at) (field-holds (c .before .before .before .before .before .before .before .before .before .before .before .before .before .before .before .before .before .args .file .now) (c .before .before .before .before .before .before .before .before .before .before .before .before .before .before .loop .at) 4 4 4 field) in
+    omega (arith, ends)
+
+loop-again : tie.Need-loop-again Inv-loop μ-loop
+unfolding view viewDemand rowIn
+loop-again c =
     let request = c .before .before .before .before .before .before .before .before .before .before .before .before .before .before .before .before .before .args .t1 in
     let s = c .before .before .before .before .before .before .before .before .before .before .before .before .before .before .before .before .before .args .file .now in
     let v = view request in
@@ -182,63 +233,15 @@ returns-4 c =
     let here : rowIn v s at .who < length (v .demands) = omega (arith, is-who, counted, c .before .before .before .before .before .before .if1 .left) in
     let new = subst (λ (k : ℕ). given-in rows k ≡ false) (sym is-who) (given-at rows given who false (so-far .given-held) (omega arith) (c .before .before .before .before .before .if2 .left)) in
     let start = c .before .before .before .before .number-in2 .result in
-    let width = ap (λ (d : DemandView). d .width) (ap (demandAt (v .demands)) is-who ∙ demand-shown request who (omega arith)) in
-    let end : request .band .slots < start + getD (request .demands) who _ .width = leb-false _ _ (refused-by (c .before .before .end-within .ensures) (c .before .if3 .taken)) in
-    c .no-rows4 .ensures ∙ ap packRows (sym (so-far-refused v s at given starts (c .before .before .before .before .before .before .before .before .before .before .before .before .before .before .before .before .before .pre .1) so-far (EndAbove at) more
-    (row-decides v s at rows field ∙ row-above v at rows (rowIn v s at) here new (omega (arith, width, end, c .before .before .before .before .number-in2 .ensures)))))
-
-array-write-given : tie.Need-array-write-given Inv-loop μ-loop
-array-write-given c = search needs
-
-mul-starts : tie.Need-mul-starts Inv-loop μ-loop
-mul-starts c = search needs
-
-array-write-starts : tie.Need-array-write-starts Inv-loop μ-loop
-array-write-starts c = search needs
-
-add-at : tie.Need-add-at Inv-loop μ-loop
-add-at c =
-    let field : checkField (c .before .before .before .before .before .before .before .before .before .before .before .before .before .before .before .before .args .file .now) (c .before .before .before .before .before .before .before .before .before .before .before .before .before .loop .at) 4 4 4 ≡ Sound = sym (c .before .before .before .before .before .before .before .before .before .before .before .check-field .ensures) ∙ c .before .before .before .before .before .before .before .before .before .enum-told .given .1 in
-    let ends = row-end (c .before .before .before .before .before .before .before .before .before .before .before .before .before .before .before .before .args .file .now) (c .before .before .before .before .before .before .before .before .before .before .before .before .before .loop .at) (field-holds (c .before .before .before .before .before .before .before .before .before .before .before .before .before .before .before .before .args .file .now) (c .before .before .before .before .before .before .before .before .before .before .before .before .before .loop .at) 4 4 4 field) in
-    omega (arith, ends)
-
-loop-less : tie.Need-loop-less Inv-loop μ-loop
-loop-less c =
-    let field : checkField (c .before .before .before .before .before .before .before .before .before .before .before .before .before .before .before .before .args .file .now) (c .before .before .before .before .before .before .before .before .before .before .before .before .before .loop .at) 4 4 4 ≡ Sound = sym (c .before .before .before .before .before .before .before .before .before .before .before .check-field .ensures) ∙ c .before .before .before .before .before .before .before .before .before .enum-told .given .1 in
-    let ends = row-end (c .before .before .before .before .before .before .before .before .before .before .before .before .before .before .before .before .args .file .now) (c .before .before .before .before .before .before .before .before .before .before .before .before .before .loop .at) (field-holds (c .before .before .before .before .before .before .before .before .before .before .before .before .before .before .before .before .args .file .now) (c .before .before .before .before .before .before .before .before .before .before .before .before .before .loop .at) 4 4 4 field) in
-    omega (arith, ends)
-
-loop-again : tie.Need-loop-again Inv-loop μ-loop
-unfolding view viewDemand rowIn
-loop-again c =
-    let request = c .before .before .before .before .before .before .before .before .before .before .before .before .before .before .before .before .args .t1 in
-    let s = c .before .before .before .before .before .before .before .before .before .before .before .before .before .before .before .before .args .file .now in
-    let v = view request in
-    let at = c .before .before .before .before .before .before .before .before .before .before .before .before .before .loop .at in
-    let given = c .before .before .before .before .before .before .before .before .before .before .before .before .before .loop .given in
-    let starts = c .before .before .before .before .before .before .before .before .before .before .before .before .before .loop .starts in
-    let so-far = c .before .before .before .before .before .before .before .before .before .before .before .before .before .loop .inv .0 in
-    let rows = so-far .rows in
-    let more : at ≡ length s → ⊥ = below at (length s) (c .before .before .before .before .before .before .before .before .before .before .before .before .loop-test .taken) in
-    let field : checkField s at 4 4 4 ≡ Sound = sym (c .before .before .before .before .before .before .before .before .before .before .before .check-field .ensures) ∙ c .before .before .before .before .before .before .before .before .before .enum-told .given .1 in
-    let all = whole request _ (c .before .before .before .before .before .before .before .before .before .before .before .before .before .before .before .before .good .0) .all-demands in
-    let shown : length (v .demands) ≡ min (request .«demand_count») (length (request .demands)) = demands-shown request in
-    let counted : request .«demand_count» ≡ length (v .demands) = omega arith in
-    let who = c .before .before .before .before .before .before .position-of .result in
-    let found = subst (λ (n : ℕ). who ≡ positionOf (c .before .before .before .before .before .before .before .before .number-in .result) (take n (c .before .before .before .before .before .before .before .before .before .before .before .before .before .before .idents-of .result))) counted (c .before .before .before .before .before .before .position-of .ensures) in
-    let is-who = row-who v s at (c .before .before .before .before .before .before .before .before .before .before .before .before .before .before .idents-of .result) (c .before .before .before .before .before .before .before .before .number-in .result) who (c .before .before .before .before .before .before .before .before .before .before .before .before .before .before .idents-of .ensures) (c .before .before .before .before .before .before .before .before .number-in .ensures) found in
-    let here : rowIn v s at .who < length (v .demands) = omega (arith, is-who, counted, c .before .before .before .before .before .if1 .left) in
-    let new = subst (λ (k : ℕ). given-in rows k ≡ false) (sym is-who) (given-at rows given who false (so-far .given-held) (omega arith) (c .before .before .before .before .if2 .left)) in
-    let start = c .before .before .before .number-in2 .result in
-    let width = ap (λ (d : DemandView). d .width) (ap (demandAt (v .demands)) is-who ∙ demand-shown request who (omega arith)) in
-    let end : start + getD (request .demands) who _ .width ≤ request .band .slots = leb-true _ _ (passed-by (c .before .end-within .ensures) (c .if3 .left)) in
+    let width = ap (λ (d : DemandView). widthOf d) (ap (demandAt (v .demands)) is-who ∙ demand-shown request who (omega arith)) in
+    let end : start + c .before .before .width-of .result ≤ request .band .slots = leb-true _ _ (passed-by (c .before .end-within .ensures) (c .if3 .left)) in
     let ends = row-end s at (field-holds s at 4 4 4 field) in
-    let sound = row-decides v s at rows field ∙ row-sound v at rows (rowIn v s at) here new (omega (arith, width, end, c .before .before .before .number-in2 .ensures)) in
-    let next = so-far-more v s at given starts (c .before .before .before .before .before .before .before .before .before .before .before .before .before .before .before .before .pre .1) so-far more sound (ends .0) (ends .1) (omega arith) in (
+    let sound = row-decides v s at rows field ∙ row-sound v at rows (rowIn v s at) here new (omega (arith, width, c .before .before .width-of .ensures, end, c .before .before .before .before .number-in2 .ensures)) in
+    let next = so-far-more v s at given starts (c .before .before .before .before .before .before .before .before .before .before .before .before .before .before .before .before .before .pre .1) so-far more sound (ends .0) (ends .1) (omega arith) in (
       subst (λ (k : ℕ). RowsSoFar v s (at + 7) (set given k true) (set starts k start)) is-who
-          (subst (λ (x : ℕ). RowsSoFar v s (at + 7) (set given (rowIn v s at .who) true) (set starts (rowIn v s at .who) x)) (sym (c .before .before .before .number-in2 .ensures)) next),
-      simp length-set (c .before .before .before .before .before .before .before .before .before .before .before .before .before .loop .inv .1),
-      simp length-set (c .before .before .before .before .before .before .before .before .before .before .before .before .before .loop .inv .2),
+          (subst (λ (x : ℕ). RowsSoFar v s (at + 7) (set given (rowIn v s at .who) true) (set starts (rowIn v s at .who) x)) (sym (c .before .before .before .before .number-in2 .ensures)) next),
+      simp length-set (c .before .before .before .before .before .before .before .before .before .before .before .before .before .before .loop .inv .1),
+      simp length-set (c .before .before .before .before .before .before .before .before .before .before .before .before .before .before .loop .inv .2),
     )
 
 returns-5 : tie.Need-returns-5 Inv-loop μ-loop
@@ -277,6 +280,7 @@ read-rows-spec =
     number-in-requires-2
     mul-demand
     element-copy-out-demand
+    width-of-requires
     cast-end-within
     end-within-requires
     no-rows-requires-4

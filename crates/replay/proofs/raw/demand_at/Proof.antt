@@ -39,23 +39,32 @@ loop-less c = search needs
 loop-again : tie.Need-loop-again Inv-loop μ-loop
 loop-again c = search needs
 
-two-at-requires : tie.Need-two-at-requires Inv-loop μ-loop
-two-at-requires c κs = search needs
-
 next-requires-3 : tie.Need-next-requires-3 Inv-loop μ-loop
 next-requires-3 c κs = search needs
 
-two-at-requires-2 : tie.Need-two-at-requires-2 Inv-loop μ-loop
-two-at-requires-2 c κs = search needs
+two-at-requires : tie.Need-two-at-requires Inv-loop μ-loop
+two-at-requires c κs = search needs
 
 next-requires-4 : tie.Need-next-requires-4 Inv-loop μ-loop
 next-requires-4 c κs = search needs
 
+two-at-requires-2 : tie.Need-two-at-requires-2 Inv-loop μ-loop
+two-at-requires-2 c κs = search needs
+
 byte-at-requires-2 : tie.Need-byte-at-requires-2 Inv-loop μ-loop
 byte-at-requires-2 c κs = search needs
 
-cast-t17 : tie.Need-cast-t17 Inv-loop μ-loop
-cast-t17 c = search needs
+asked-for-requires : tie.Need-asked-for-requires Inv-loop μ-loop
+asked-for-requires c κs = search needs
+
+next-requires-5 : tie.Need-next-requires-5 Inv-loop μ-loop
+next-requires-5 c κs = search needs
+
+byte-at-requires-3 : tie.Need-byte-at-requires-3 Inv-loop μ-loop
+byte-at-requires-3 c κs = search needs
+
+cast-t19 : tie.Need-cast-t19 Inv-loop μ-loop
+cast-t19 c = search needs
 
 returns : tie.Need-returns Inv-loop μ-loop
 returns c = search needs
@@ -75,10 +84,13 @@ demand-at-spec =
     add-k
     loop-less
     loop-again
-    two-at-requires
     next-requires-3
-    two-at-requires-2
+    two-at-requires
     next-requires-4
+    two-at-requires-2
     byte-at-requires-2
-    cast-t17
+    asked-for-requires
+    next-requires-5
+    byte-at-requires-3
+    cast-t19
     returns)

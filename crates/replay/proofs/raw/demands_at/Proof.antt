@@ -30,14 +30,8 @@ mul-demands c = search needs
 array-set-from-demands : tie.Need-array-set-from-demands Inv-loop μ-loop
 array-set-from-demands c = search needs
 
-next-requires : tie.Need-next-requires Inv-loop μ-loop
-next-requires c κs = search needs
-
-links-held-requires : tie.Need-links-held-requires Inv-loop μ-loop
-links-held-requires c κs = search needs
-
-next-requires-2 : tie.Need-next-requires-2 Inv-loop μ-loop
-next-requires-2 c κs = search needs
+demand-end-requires : tie.Need-demand-end-requires Inv-loop μ-loop
+demand-end-requires c κs = search needs
 
 add-k : tie.Need-add-k Inv-loop μ-loop
 add-k c = search needs
@@ -63,9 +57,7 @@ demands-at-spec =
     demand-at-requires-2
     mul-demands
     array-set-from-demands
-    next-requires
-    links-held-requires
-    next-requires-2
+    demand-end-requires
     add-k
     loop-less
     loop-again
