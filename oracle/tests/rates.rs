@@ -1,8 +1,10 @@
 //! Demands by bit rate: worked by hand, and what the made cases cover.
 
-use oracle::answers::{answer, answer_stream, hex};
+mod common;
+
+use common::{breaks_a_law, read, said, Answered};
+use oracle::answers::{answer_stream, hex};
 use oracle::frames::{call_of, frame_of, framed, Call};
-use oracle::laws::law;
 use oracle::lightplan::lightplan;
 use oracle::make::shapes::{changed, line, with_demand, UNLISTED};
 use oracle::make::{malformed, random, stored};
@@ -11,7 +13,7 @@ use oracle::request::{Band, Demand, Request};
 use oracle::request_file::request_bytes;
 use oracle::rules::{Rules, RATES};
 use oracle::slips::{Slip, SLIPS};
-use oracle::variants::{self, told_apart, Variant};
+use oracle::variants;
 
 /// The worked request R with 100 Gbit/s in the place of 2 slots and 400 Gbit/s in the place of 3.
 const BY_RATE: [u8; 43] = [
@@ -26,14 +28,6 @@ const BY_RATE: [u8; 43] = [
 fn by_rate() -> Request {
     let demands = vec![Demand::by_rate(10, 100, &[0]), Demand::new(20, 1, &[0, 1]), Demand::by_rate(30, 400, &[1])];
     Request::new(Band::new(-284, 384, 0), line(2), demands)
-}
-
-fn said(call: Call) -> String {
-    answer(&call, &Rules::right())
-}
-
-fn read(file: &[u8]) -> String {
-    said(Call::ReadRequest { file: file.to_vec() })
 }
 
 fn sound(request: &Request) -> String {
@@ -322,14 +316,13 @@ const RARE: Slip = Slip::CountPerTag;
 fn each_call_shows_the_slips_about_rates() {
     for (calls, by_chance) in [(stored(), false), (random(1, 20_000), true)] {
         for op in 0x01..=0x09 {
-            let calls: Vec<Call> = calls.iter().filter(|call| frame_of(call)[0] == op).cloned().collect();
-            let right: Vec<String> = calls.iter().map(|call| said(call.clone())).collect();
+            let answered = Answered::of(op, &calls);
             for (slip, _) in rate_slips().into_iter().filter(|(_, ops)| ops.contains(&op)) {
                 if by_chance && slip == RARE {
                     continue;
                 }
-                let variant = Variant { name: String::new(), rules: Rules { slip, ..Rules::right() } };
-                assert!(told_apart(&variant, &calls, &right).is_some(), "op {op:02X} and {slip:?}");
+                let rules = Rules { slip, ..Rules::right() };
+                assert!(answered.differ_under(rules), "op {op:02X} and {slip:?}");
             }
         }
     }
@@ -339,14 +332,12 @@ fn each_call_shows_the_slips_about_rates() {
 fn each_call_shows_every_other_table() {
     for calls in [stored(), random(1, 20_000)] {
         for op in 0x04..=0x09 {
-            let calls: Vec<Call> = calls.iter().filter(|call| frame_of(call)[0] == op).cloned().collect();
-            let right: Vec<String> = calls.iter().map(|call| said(call.clone())).collect();
+            let answered = Answered::of(op, &calls);
             for (at, (rate, width)) in RATES.into_iter().enumerate() {
                 for wrong in [width - 1, width + 1] {
                     let mut rules = Rules::right();
                     rules.rates[at].1 = wrong;
-                    let variant = Variant { name: String::new(), rules };
-                    assert!(told_apart(&variant, &calls, &right).is_some(), "op {op:02X}: {rate} gives {wrong}");
+                    assert!(answered.differ_under(rules), "op {op:02X}: {rate} gives {wrong}");
                 }
             }
         }
@@ -373,15 +364,11 @@ fn the_laws_notice_slips_about_rates() {
     let calls = stored();
     for slip in UNDER_A_LAW {
         let rules = Rules { slip, ..Rules::right() };
-        assert!(calls.iter().any(|call| law(call, &rules) == Some(false)), "{slip:?} breaks no law");
+        assert!(breaks_a_law(&calls, &rules), "{slip:?} breaks no law");
     }
     for variant in variants::all().iter().filter(|variant| variant.rules.rates.len() == RATES.len()) {
         if variant.rules.rates != RATES {
-            assert!(
-                calls.iter().any(|call| law(call, &variant.rules) == Some(false)),
-                "{} breaks no law",
-                variant.name
-            );
+            assert!(breaks_a_law(&calls, &variant.rules), "{} breaks no law", variant.name);
         }
     }
 }

@@ -1,10 +1,12 @@
 //! The worked set c1 to c12, the four lines `lightplan` prints, what was in the way, and what the made cases cover.
 
-use oracle::answers::{answer, answer_stream};
+mod common;
+
+use common::{breaks_a_law, read, said, Answered};
+use oracle::answers::answer_stream;
 use oracle::census::headline;
 use oracle::fields::put_field;
 use oracle::frames::{call_of, frame_of, Call};
-use oracle::laws::law;
 use oracle::lightplan::lightplan;
 use oracle::make::shapes::{changed, line, triangle, wedged, worked};
 use oracle::make::{malformed, random, stored};
@@ -12,7 +14,7 @@ use oracle::one::{One, Standing};
 use oracle::request::{Band, Demand, Request};
 use oracle::rules::Rules;
 use oracle::slips::{Slip, SLIPS};
-use oracle::variants::{self, told_apart, Variant};
+use oracle::variants;
 
 const R: [u8; 43] = [
     0x01, 0x00, 0x05, 0xFE, 0xE4, 0x01, 0x80, 0x00, //
@@ -22,14 +24,6 @@ const R: [u8; 43] = [
     0x03, 0x00, 0x06, 0x00, 0x14, 0x00, 0x01, 0x00, 0x01, //
     0x03, 0x00, 0x05, 0x00, 0x1E, 0x00, 0x03, 0x01,
 ];
-
-fn said(call: Call) -> String {
-    answer(&call, &Rules::right())
-}
-
-fn read(file: &[u8]) -> String {
-    said(Call::ReadRequest { file: file.to_vec() })
-}
 
 fn placed(request: &Request) -> String {
     placed_as(&[0, 1, 2], request)
@@ -309,11 +303,9 @@ fn blocker_slips() -> Vec<(Slip, Vec<u8>)> {
 fn each_call_shows_every_slip_about_blockers() {
     for calls in [stored(), random(1, 4_000)] {
         for op in [0x05, 0x06, 0x20] {
-            let calls: Vec<Call> = calls.iter().filter(|call| frame_of(call)[0] == op).cloned().collect();
-            let right: Vec<String> = calls.iter().map(|call| said(call.clone())).collect();
+            let answered = Answered::of(op, &calls);
             for (slip, ops) in blocker_slips() {
-                let variant = Variant { name: String::new(), rules: Rules { slip, ..Rules::right() } };
-                let shown = told_apart(&variant, &calls, &right).is_some();
+                let shown = answered.differ_under(Rules { slip, ..Rules::right() });
                 assert_eq!(shown, ops.contains(&op), "op {op:02X} and {slip:?}");
             }
         }
@@ -329,7 +321,7 @@ fn the_laws_notice_every_other_slip_about_blockers() {
     let calls = stored();
     for (slip, _) in blocker_slips().into_iter().filter(|(slip, _)| !UNDER_NO_LAW.contains(slip)) {
         let rules = Rules { slip, ..Rules::right() };
-        assert!(calls.iter().any(|call| law(call, &rules) == Some(false)), "{slip:?} breaks no law");
+        assert!(breaks_a_law(&calls, &rules), "{slip:?} breaks no law");
     }
 }
 
