@@ -28,17 +28,11 @@ static void hold_at(int line, int holds, const char *what)
 
 #define HOLD(what) hold_at(__LINE__, (what), #what)
 
-/* a call writes K entries of both buffers and nothing else, or nothing at all */
+/* a call writes K entries of each of three buffers and nothing else, or nothing at all */
 static void hold_written(size_t entries)
 {
     HOLD(lent_kept(&first_lent, 2 * entries));
     HOLD(lent_kept(&second_lent, 2 * entries));
-}
-
-/* of all three buffers, alike */
-static void hold_all_written(size_t entries)
-{
-    hold_written(entries);
     HOLD(lent_kept(&third_lent, 2 * entries));
 }
 
@@ -55,7 +49,7 @@ static void hold_no_request(const struct lightplan_request *request)
 {
     HOLD(request->n0 == 0 && request->slots == 0 && request->guard == 0 && request->links == 0 && request->demands == 0 &&
          request->bound == 0);
-    hold_all_written(0);
+    hold_written(0);
 }
 
 static void hold_too_short(const struct lightplan_request *request, size_t needed)
@@ -73,7 +67,7 @@ static void hold_read(const struct seen *seen, size_t idents, size_t widths, siz
     HOLD(!memcmp(first_lent.first + LENT_BYTES - 2 * idents, seen->idents, 2 * seen->demands));
     HOLD(!memcmp(second_lent.first + LENT_BYTES - 2 * widths, seen->widths, 2 * seen->demands));
     HOLD(!memcmp(third_lent.first + LENT_BYTES - 2 * rates, seen->rates, 2 * seen->demands));
-    hold_all_written(seen->demands);
+    hold_written(seen->demands);
 }
 
 /* each of the three buffers short, just enough and longer, with every other */
@@ -111,7 +105,7 @@ static void hold_no_routes(struct lightplan_routes told, unsigned refusal, size_
 {
     HOLD(told.refusal == refusal && told.place == place);
     HOLD(told.links == 0 && told.demands == 0 && told.hops == 0);
-    hold_all_written(0);
+    hold_written(0);
 }
 
 /* all links and routes, as the file's own bytes have them */
@@ -226,7 +220,7 @@ static void hold_no_answer(struct lightplan_answer answer, unsigned refusal, siz
 {
     HOLD(answer.refusal == refusal && answer.place == place);
     HOLD(answer.outcome == 0 && answer.end == 0 && answer.bound == 0 && answer.steps == 0 && answer.reached == 0 && answer.ruled == 0);
-    hold_all_written(0);
+    hold_written(0);
 }
 
 static int same_answer(const struct lightplan_answer *a, const struct lightplan_answer *b)
@@ -274,10 +268,10 @@ static struct lightplan_answer hold_search(const struct seen *seen, uint32_t lim
     *found = found_in(rooms, k);
     hold_sums(seen, &answer, found->order);
     if (answer.outcome == LIGHTPLAN_FINISHED || answer.outcome == LIGHTPLAN_UNFINISHED) {
-        hold_all_written(k);
+        hold_written(k);
         hold_found(seen, &answer, found);
     } else {
-        hold_all_written(0);
+        hold_written(0);
         HOLD(answer.end == 0);
     }
     return answer;
@@ -449,7 +443,7 @@ static void test_narrow(const uint8_t *wide)
     file[6] = 3;
     struct lightplan_answer answer = search_with(file, sizeof file, 0, each(3));
     HOLD(answer.refusal == LIGHTPLAN_ANSWERED && answer.outcome == LIGHTPLAN_NOTHING_FITS && answer.bound == 4);
-    hold_all_written(0);
+    hold_written(0);
 }
 
 /* three demands on two links, with every number known */
@@ -481,7 +475,7 @@ static void test_known(void)
     HOLD(answer.outcome == LIGHTPLAN_UNFINISHED && answer.end == 6 && answer.steps == 4 && same_found(&found, &by_listing));
     answer = search_with(file, sizeof file, 0, each(3));
     HOLD(answer.outcome == LIGHTPLAN_UNFINISHED_EMPTY && answer.end == 0 && answer.steps == 0);
-    hold_all_written(0);
+    hold_written(0);
     test_narrow(file);
     hold_plan(lightplan_check_starts(file, sizeof file, clashing, 3), LIGHTPLAN_CLASH, 2);
     hold_plan(lightplan_check_starts(file, sizeof file, NULL, 0), LIGHTPLAN_NO_ROW, 0);
