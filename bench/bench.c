@@ -1,12 +1,10 @@
 /* Runs the walks on the same requests, one after the other and five times over, and prints how many steps each takes in a second. Any
    difference in the counts, the starts or the order ends the run. */
-#define _POSIX_C_SOURCE 199309L
+#include "common.h"
 #include "walk.h"
-#include <errno.h>
 #include <stdio.h>
 #include <stdlib.h>
 #include <string.h>
-#include <time.h>
 
 enum { REQUESTS = 8, TIMES = 5, NODES = 4, EDGE = -284, SLOTS = 384, GUARD = 1 };
 
@@ -24,14 +22,6 @@ static const struct walker walkers[] = {
 
 enum { WALKERS = sizeof walkers / sizeof walkers[0] };
 
-static uint64_t seed;
-
-static int below(int n)
-{
-    seed = seed * 6364136223846793005u + 1442695040888963407u;
-    return (seed >> 33) % n;
-}
-
 /* three links of a network, each beginning where the one before ends, none twice */
 static void draw_route(int links, const int *from, const int *to, int *route)
 {
@@ -44,10 +34,9 @@ static void draw_route(int links, const int *from, const int *to, int *route)
     }
 }
 
-static void put(struct task *task, int bytes, int number)
+static void add(struct task *task, int bytes, int number)
 {
-    while (bytes-- > 0)
-        task->file[task->length++] = (unsigned)number >> 8 * bytes;
+    put(task->file, &task->length, bytes, number);
 }
 
 /* the largest need of a link, and who meets whom */
@@ -74,34 +63,27 @@ static void draw(struct task *task, int count, uint32_t limit)
     static const int widths[5] = {1, 1, 2, 8, 20};
     int links = 8 + below(5), from[12], to[12], route[MOST][3];
     *task = (struct task){.count = count, .guard = GUARD, .slots = SLOTS, .limit = limit};
-    put(task, 3, 0x010005);
-    put(task, 2, EDGE);
-    put(task, 2, SLOTS);
-    put(task, 1, GUARD);
+    add(task, 3, 0x010005);
+    add(task, 2, EDGE);
+    add(task, 2, SLOTS);
+    add(task, 1, GUARD);
     for (int l = 0; l < links; l++) {
         from[l] = l % NODES;
         to[l] = (from[l] + 1 + below(NODES - 1)) % NODES;
-        put(task, 3, 0x020002);
-        put(task, 1, from[l]);
-        put(task, 1, to[l]);
+        add(task, 3, 0x020002);
+        add(task, 1, from[l]);
+        add(task, 1, to[l]);
     }
     for (int i = 0; i < count; i++) {
         task->width[i] = widths[below(5)];
         draw_route(links, from, to, route[i]);
-        put(task, 3, 0x030007);
-        put(task, 2, i);
-        put(task, 2, task->width[i]);
+        add(task, 3, 0x030007);
+        add(task, 2, i);
+        add(task, 2, task->width[i]);
         for (int k = 0; k < 3; k++)
-            put(task, 1, route[i][k]);
+            add(task, 1, route[i][k]);
     }
     weigh(task, links, route);
-}
-
-static double now(void)
-{
-    struct timespec t;
-    clock_gettime(CLOCK_MONOTONIC, &t);
-    return t.tv_sec + 1e-9 * t.tv_nsec;
 }
 
 /* the least time of each walker on one request; returns the steps */
@@ -147,23 +129,11 @@ static void bench(int count, uint32_t limit)
     printf("\n");
 }
 
-/* a number in decimal digits alone, within these limits; anything else ends the program */
-static uint64_t number(const char *word, uint64_t least, uint64_t most)
-{
-    char *end;
-    errno = 0;
-    uint64_t n = strtoull(word, &end, 10);
-    if (*word < '0' || *word > '9' || *end || errno || n < least || n > most) {
-        fprintf(stderr, "usage: bench [SEED [STEPS]], two numbers, at least one step\n");
-        exit(2);
-    }
-    return n;
-}
-
 int main(int count, char **words)
 {
-    seed = count > 1 ? number(words[1], 0, UINT64_MAX) : 1;
-    uint32_t limit = count > 2 ? (uint32_t)number(words[2], 1, UINT32_MAX) : 2000000;
+    static const char usage[] = "bench [SEED [STEPS]], two numbers, at least one step";
+    seed = count > 1 ? number(words[1], 0, UINT64_MAX, usage) : 1;
+    uint32_t limit = count > 2 ? (uint32_t)number(words[2], 1, UINT32_MAX, usage) : 2000000;
     printf("millions of steps in a second, %u steps at most for each request\n", limit);
     bench(12, limit);
     bench(16, limit);

@@ -85,6 +85,14 @@ static void call_search(void)
     end = a.end;
 }
 
+static void call_groups(void)
+{
+    struct lightplan_grouped g =
+        lightplan_groups(file, file_bytes, LIGHTPLAN_GROUPS, first, LIGHTPLAN_DEMANDS, second, LIGHTPLAN_DEMANDS);
+    refusal = g.refusal;
+    end = g.end;
+}
+
 static void call_check(void)
 {
     struct lightplan_verdict v = lightplan_check(file, file_bytes, plan, plan_bytes, second, LIGHTPLAN_DEMANDS);
@@ -156,6 +164,7 @@ int main(void)
     measure("lightplan_search, refused: 200 demands", call_search, LIGHTPLAN_TOO_MANY_TO_SEARCH, 0);
     make_request(20, 32, 8);
     measure("lightplan_search, 20 demands of 32 links, all 20 levels deep", call_search, 0, 20 + 19 * 8);
+    measure("lightplan_groups, the same, 8 groups deep", call_groups, 0, 20 + 19 * 8);
     file_bytes--;
     measure("lightplan_search, refused: the file is cut short", call_search, LIGHTPLAN_PAST_END, 0);
     measure("lightplan_frequency", call_frequency, 0, 0);

@@ -1,9 +1,9 @@
 #!/usr/bin/env bash
 # Tests the C host: the library's entries called from C with lent memory that is looked at afterwards; what they read, written again, and
-# their searches held against the second program's, buffers included; and lightdesk held against the program lightplan, against who is in
-# the way and what is booked by bit rate by a few lines of C, and against the second program's checks of plans, on stored and random
-# files. All C is compiled with UBSan; where AddressSanitizer runs, the entries are called on every file under it, and lightdesk says all
-# that it has words for. SEED=... repeats a run.
+# their searches and groups held against the second program's, buffers included; and lightdesk held against the program lightplan, against
+# who is in the way and what is booked by bit rate by a few lines of C, against the second program's checks of plans, and its plans of
+# groups against its own check of them, on stored and random files. All C is compiled with UBSan; where AddressSanitizer runs, the entries
+# are called on every file under it, and lightdesk says all that it has words for. SEED=... repeats a run.
 # The last line counts the runs: "N passed, 0 failed". The first difference ends it with a non-zero status.
 set -euo pipefail
 cd "$(dirname "$0")/.."
@@ -68,7 +68,7 @@ compile() {
 all_sanitizers
 entries="tests/host/entries.c tests/host/lent.c tests/host/seen.c"
 wrong=tests/host/wrong.c
-for entry in read read_routes search check check_starts frequency version; do
+for entry in read read_routes search groups check check_starts frequency version; do
     wrong="$wrong -Wl,--wrap=lightplan_$entry"
 done
 # shellcheck disable=SC2086
@@ -84,9 +84,9 @@ hosts/c/build.sh
 
 # ---- the archive
 
-# The seven entries are all that it offers; it has no variable of its own, and takes nothing but copying and filling from the C library.
+# The eight entries are all that it offers; it has no variable of its own, and takes nothing but copying and filling from the C library.
 archive() {
-    local names=lightplan_check,lightplan_check_starts,lightplan_frequency,lightplan_read,lightplan_read_routes,lightplan_search,lightplan_version,
+    local names=lightplan_check,lightplan_check_starts,lightplan_frequency,lightplan_groups,lightplan_read,lightplan_read_routes,lightplan_search,lightplan_version,
     nm "$HOST_LIBRARY" >"$work/names"
     [ "$(awk '$2 ~ /^[A-TV-Z]$/ || $2 ~ /^[vw]$/ { print $3 }' "$work/names" | sort | tr '\n' ,)" = "$names" ] || failed "the archive offers other names"
     ! awk '$2 ~ /^[bBcCdD]$/ { found = 1 } END { exit !found }' "$work/names" || failed "the archive has variables"
@@ -144,7 +144,9 @@ misuse() {
 
 best='This is the best there is, proved: '
 at_bound="${best}the plan ends at the bound, and no plan can end below it."
+checked_best="${best}the plan is allowed and ends at the bound, and no plan can end below it."
 by_orders="${best}the search accounted for every order of the demands, and no plan at all ends lower."
+by_single_groups="${best}with a group for each demand every order of the demands was tried, and no plan at all ends lower."
 
 by_rate='circuit 10 is booked at 10 Gbit/s: 1 slot
 circuit 20 is booked at 40 Gbit/s: 1 slot
@@ -192,15 +194,85 @@ searches() {
     begins 'refused 20 8128'
 }
 
+# placed LINES: what was printed last says this, and no more, of the order of groups
+placed() {
+    [ "$(grep '^group \|^Numbers of groups ' "$work/printed" || true)" = "$1" ] || failed "groups in another order: $(grep '^group \|^Numbers ' "$work/printed")"
+    passed=$((passed + 1))
+}
+
+# plan_of FILE: writes to the file the plan of the rows that were printed last
+plan_of() {
+    printf '%b' "$(awk '/^[0-9]/ { printf "\\04\\00\\04\\0%o\\0%o\\0%o\\0%o", int($1 / 256), $1 % 256, int($2 / 256), $2 % 256 }' "$work/printed")" >"$1"
+}
+
+# above SLOTS BOUND: the words for a plan of groups that ends so far above this bound
+above() { echo "The bound does not tell whether this is the best there is: it ends $1 above. A plan may end lower, though none below $2."; }
+
+in_groups() {
+    local count
+    says 0 "$checked_best" groups examples/R.request
+    begins 'grouped end 4 bound 4 groups 2'
+    placed $'group 1 is placed first: listing position 2\ngroup 0 is placed next: listing positions 0 to 1\nNumbers of groups from 1 to 3 were tried: 2 is the first that gives this end, the lowest.'
+    blocked 'circuit 20 starts at 3: circuit 30 ends there'
+    says 0 "$(above '2 slots' 4)" groups examples/R.request 1
+    begins 'grouped end 6 bound 4 groups 1'
+    placed 'group 0 is placed first: listing positions 0 to 2'
+    blocked $'circuit 20 starts at 2: circuit 10 ends there\ncircuit 30 starts at 3: circuit 20 ends there'
+    says 0 "$checked_best" groups examples/R.request 3
+    begins 'grouped end 4 bound 4 groups 3'
+    says 0 "$(above '1 slot' 2)" groups examples/T.request 2
+    begins 'grouped end 3 bound 2 groups 2'
+    says 0 "$by_single_groups" groups examples/T.request 3
+    begins 'grouped end 3 bound 2 groups 3'
+    says 0 "$by_single_groups" groups examples/T.request
+    begins 'grouped end 3 bound 2 groups 1'
+    says 0 "$checked_best" groups examples/rates.request 1
+    booked "$by_rate"
+    says 0 "$checked_best" groups examples/nsfnet91.request
+    begins 'grouped end 80 bound 80 groups 3'
+    placed "$(printf '%s\n' 'group 0 is placed first: listing positions 0 to 30' 'group 2 is placed next: listing positions 61 to 90' 'group 1 is placed next: listing positions 31 to 60' 'Numbers of groups from 1 to 8 were tried: 3 is the first that gives this end, the lowest.')"
+    says 1 'Nothing fits, proved: with a group for each demand every order of the demands was tried, and no plan ends within 2 slots.' groups examples/tight.request
+    begins 'nothing bound 2 groups 3'
+    blocked ''
+    placed ''
+    says 1 'Not known whether anything fits: no order of 1 group gives a plan, and another order of the demands may.' groups examples/tight.request 1
+    begins 'nothing bound 2 groups 1'
+    says 1 'Not known whether anything fits: no order of 2 groups gives a plan, and another order of the demands may.' groups examples/tight.request 2
+    says 1 'Nothing fits, proved: the fullest link needs 4 slots, and the band has 3.' groups "$work/narrow" 2
+    for count in 0 4 9 4294967295; do
+        says 1 "The request file is refused: it cannot be cut into so many groups: there can be 1 to 8, and no more than it has demands. Place $count is how many were asked for." groups examples/R.request $count
+        begins "refused 24 $count"
+    done
+    head -c 18 examples/R.request >"$work/empty"
+    says 1 'The request file is refused: it cannot be cut into so many groups: there can be 1 to 8, and no more than it has demands. Place 1 is how many were asked for.' groups "$work/empty"
+    says 1 'The request file is refused: the file is too long. Place 8128 is how many bytes it may have.' groups /dev/zero 1
+}
+
+# The list of 150 circuits ends lower with more groups, and with 6 at its bound; the stored plan is theirs.
+more_groups() {
+    local count=0 end
+    for end in 113 113 111 108 108; do
+        count=$((count + 1))
+        says 0 "$(above "$((end - 107)) slot$([ $end = 108 ] || echo s)" 107)" groups examples/nsfnet150.request $count
+        begins "grouped end $end bound 107 groups $count"
+    done
+    says 0 "$checked_best" groups examples/nsfnet150.request 6
+    begins 'grouped end 107 bound 107 groups 6'
+    plan_of "$work/plan"
+    cmp "$work/plan" examples/nsfnet150.plan || failed "examples/nsfnet150.plan is not the plan of 6 groups"
+    says 0 "$checked_best" check examples/nsfnet150.request examples/nsfnet150.plan
+    begins 'accepted end 107 bound 107'
+}
+
 checks() {
-    says 0 "${best}the plan is allowed and ends at the bound, and no plan can end below it." check examples/nsfnet91.request examples/nsfnet91.plan
+    says 0 "$checked_best" check examples/nsfnet91.request examples/nsfnet91.plan
     begins 'accepted end 80 bound 80'
     blocked ''
     printf '\4\0\4\0\24\0\2\4\0\4\0\36\0\3\4\0\4\0\12\0\0' >"$work/higher"
     says 0 'The plan is allowed. The bound does not tell whether it is the best there is: a plan may end lower, though none below 4.' check examples/R.request "$work/higher"
     begins 'accepted end 6 bound 4'
     printf '\4\0\4\0%b\0%b' '\12' '\0' '\24' '\0' '\36' '\2' '\50' '\5' '\62' '\5' '\74' '\12' >"$work/by-rate"
-    says 0 "${best}the plan is allowed and ends at the bound, and no plan can end below it." check examples/rates.request "$work/by-rate"
+    says 0 "$checked_best" check examples/rates.request "$work/by-rate"
     booked "$by_rate"
     blocked ''
     says 1 'The plan is refused: a demand clashes with an earlier one: they share a link, and the guard does not part them. Place 2 is its listing position, counted from 0.' check examples/R.request examples/R-clash.plan
@@ -213,16 +285,18 @@ checks() {
 # Files on standard input, and what is not to be read or written.
 streams() {
     says 0 "$at_bound" search - <examples/R.request
-    says 0 "${best}the plan is allowed and ends at the bound, and no plan can end below it." check - examples/R.plan <examples/R.request
-    says 0 "${best}the plan is allowed and ends at the bound, and no plan can end below it." check examples/R.request - <examples/R.plan
+    says 0 "$checked_best" groups - <examples/R.request
+    says 0 "$checked_best" check - examples/R.plan <examples/R.request
+    says 0 "$checked_best" check examples/R.request - <examples/R.plan
     misuse check - - </dev/null
     misuse search "$work/none"
+    misuse groups "$work/none"
     misuse search "$work"
     misuse check examples/R.request "$work/none"
     misuse check "$work/none" examples/R.plan
     misuse check examples/R.request "$work"
     local words status
-    for words in --help 'search examples/R.request' 'check examples/nsfnet91.request examples/nsfnet91.plan' 'search /dev/null'; do
+    for words in --help 'search examples/R.request' 'groups examples/R.request' 'check examples/nsfnet91.request examples/nsfnet91.plan' 'search /dev/null'; do
         # shellcheck disable=SC2086
         status=0
         strict_run "$work/lightdesk-strict" $words >/dev/full 2>"$work/said" || status=$?
@@ -234,7 +308,7 @@ streams() {
 
 uses() {
     local limit
-    says 0 'steps ran out before a plan was met, or a file was refused; 2 wrong usage, or a file cannot be read or written.' --help
+    says 0 'found, or a file was refused; 2 wrong usage, or a file cannot be read or written.' --help
     misuse
     misuse --version
     misuse search
@@ -242,12 +316,17 @@ uses() {
     misuse --help more
     misuse check examples/R.request examples/R.plan more
     misuse search examples/R.request 5 more
+    misuse groups
+    misuse groups examples/R.request 2 more
     for limit in '' ' ' -1 +1 ' 1' '1 ' 1x 0x10 1e3 1.0 4294967296 99999999999999999999 18446744073709551617; do
         misuse search examples/R.request "$limit"
+        misuse groups examples/R.request "$limit"
     done
 }
 
 searches
+in_groups
+more_groups
 checks
 streams
 uses
@@ -312,23 +391,58 @@ for file in "$work"/checked/*/*.request; do
 done
 echo "as the second program's checks: $passed so far"
 
+# each_alone FILE [GROUPS]: whether, of the plan of groups in `expected`, a group for each demand was tried: as many groups as there are rows
+each_alone() {
+    local rows
+    rows=$(grep -c '^[0-9]' "$work/expected")
+    [ "$rows" = "${2:-$rows}" ] && [ "$rows" -le 8 ]
+}
+
+# as_checked FILE [GROUPS]: where groups have a plan, the check accepts it and prints the same, but for who is in the way and the order of
+# the groups; and it is called the best there is exactly where the check does so, or where a group for each demand was tried, which the
+# check cannot know
+as_checked() {
+    local status=0 words
+    x86_run "$work/lightdesk" groups "$@" >"$work/printed" || status=$?
+    [ $status -le 1 ] || failed "status $status: lightdesk groups $*"
+    [ $status = 0 ] || return 0
+    plan_of "$work/plan"
+    sed -e '1s/^grouped \(.*\) groups .*/accepted \1/' -e '/ starts at /d' -e '/^group /d' -e '/^Numbers of groups /d' "$work/printed" >"$work/expected"
+    x86_run "$work/lightdesk" check "$1" "$work/plan" >"$work/printed" || failed "a plan that is not allowed: lightdesk groups $*"
+    [ "$(head -n -1 "$work/printed")" = "$(head -n -1 "$work/expected")" ] || failed "unlike the check: lightdesk groups $*"
+    words=$(grep "^$best" "$work/printed" || true)
+    [ -n "$words" ] || ! each_alone "$@" || words=$by_single_groups
+    [ "$(grep 'best there is, proved' "$work/expected")" = "$words" ] || failed "the best otherwise than the check: lightdesk groups $*"
+    passed=$((passed + 1))
+}
+
+plans=$passed
+for file in examples/*.request "$work"/searched/random/*.request; do
+    as_checked "$file"
+done
+for file in "$work"/searched/stored/*.request; do
+    as_checked "$file" 3
+done
+[ $((passed - plans)) -gt 100 ] || failed "too few plans of groups"
+echo "plans of groups as checked: $((passed - plans))"
+
 # ---- every entry, with lent memory
 
 strict_run "$work/entries" examples/*.request "$work"/*/*/*.request | tee "$work/counted" || failed "the entries"
 files=$(sed -n 's/^\([0-9]*\) files, .*/\1/p' "$work/counted")
 passed=$((passed + files))
 
-# The second program reads the same files alike, as they are written again from what is told; and answers the same searches alike, with the
-# same entries in every buffer: short, just enough and longer.
+# The second program reads the same files alike, as they are written again from what is told; and answers the same searches and groups
+# alike, with the same entries in every buffer: short, just enough and longer.
 x86_run "$work/answers" frames examples/*.request "$work"/searched/*/*.request >"$work/frames"
 x86_run "$work/answers" lines examples/*.request "$work"/searched/*/*.request >"$work/lines"
-"$oracle" answer <"$work/frames" | cmp - "$work/lines" || failed "readings or searches unlike the second program's"
+"$oracle" answer <"$work/frames" | cmp - "$work/lines" || failed "readings, searches or groups unlike the second program's"
 lines=$(wc -l <"$work/lines")
 passed=$((passed + lines))
-echo "$lines readings and searches as the second program's"
+echo "$lines readings, searches and groups as the second program's"
 
 # The walks in C answer as the proved search does, and the stack that the header names is enough.
-bench/run "$seed" 5000 >"$work/bench" 2>&1 || { cat "$work/bench"; failed "bench/run"; }
+bench/run "$seed" 5000 5 >"$work/bench" 2>&1 || { cat "$work/bench"; failed "bench/run"; }
 passed=$((passed + 1))
 
 # ---- a library that answers wrongly is noticed
@@ -350,7 +464,8 @@ for ((fault = 1; fault <= faults; fault++)); do
 done
 echo "$faults wrong libraries noticed by the entries' test"
 
-# And by the comparison of what is printed: the faults of reading and searching, of who is in the way, of bit rates, of places, of checks.
+# And by the comparison of what is printed: the faults of reading and searching, of who is in the way, of bit rates, of groups, of places,
+# of checks.
 found examples/R.request >"$work/R"
 for fault in 2 3 8 9 10 11 12 29 30 43 44 46; do
     unlike $fault "$work/R" search examples/R.request
@@ -360,6 +475,10 @@ unlike 45 "$work/blocked" search examples/blocked.request
 found examples/rates.request >"$work/rates"
 for fault in 51 52 53; do
     unlike $fault "$work/rates" search examples/rates.request
+done
+x86_run "$work/lightdesk" groups examples/R.request 2 | head -n -1 >"$work/grouped"
+for fault in 57 58 59 60 61 62 69; do
+    unlike $fault "$work/grouped" groups examples/R.request 2
 done
 printf 'refused 1 35\n' >"$work/refused"
 head -c 42 examples/R.request >"$work/cut"

@@ -1,4 +1,4 @@
-/* Lightplan for C: reads request files, searches for the plan that ends lowest, checks plans. Seven calls over a library in which every
+/* Lightplan for C: reads request files, searches for the plan that ends lowest, checks plans. Eight calls over a library in which every
    function is proved to meet its contract.
 
    A request lists demands (circuits): each has an ident, a width in slots or a bit rate, which takes so many slots, and a route over
@@ -28,14 +28,15 @@ extern "C" {
 /* The version of these calls and structs. A library fits this header where lightplan_version() answers the same number.
    Changes: 2 numbers outcomes from 1 (1 did from 0), tells what a check refuses, and adds lightplan_read_routes and this number. 3 lends
    lightplan_search a third buffer, for who is in the way, and adds LIGHTPLAN_NOBODY. 4 reads demands by bit rate: it lends lightplan_read a
-   third buffer, for the rates, and adds LIGHTPLAN_UNKNOWN_RATE. */
-#define LIGHTPLAN_VERSION 4
+   third buffer, for the rates, and adds LIGHTPLAN_UNKNOWN_RATE. 5 adds lightplan_groups and LIGHTPLAN_GROUPS_OUTSIDE. */
+#define LIGHTPLAN_VERSION 5
 
 /* The longest files that are read. To see that a file is too long it is enough to give one byte more. */
 #define LIGHTPLAN_REQUEST_BYTES 8128
 #define LIGHTPLAN_PLAN_BYTES 1400
 
-/* The most demands of a request, so that buffers of as many entries are never too short for lightplan_read and lightplan_check. */
+/* The most demands of a request, so that buffers of as many entries are never too short for lightplan_read, lightplan_groups and
+   lightplan_check. */
 #define LIGHTPLAN_DEMANDS 200
 
 /* The most links of a request, and the most links of a route; so that buffers of as many entries are never too short for
@@ -48,13 +49,16 @@ extern "C" {
 /* The most demands that are searched, so that buffers of as many entries are never too short for lightplan_search. */
 #define LIGHTPLAN_SEARCHED 20
 
-/* In the blockers of lightplan_search: nobody is in the way. Listing positions are below LIGHTPLAN_DEMANDS. */
+/* The most groups that demands are cut into, which is how many entries the order of a struct lightplan_grouped has. */
+#define LIGHTPLAN_GROUPS 8
+
+/* In the blockers of lightplan_search and lightplan_groups: nobody is in the way. Listing positions are below LIGHTPLAN_DEMANDS. */
 #define LIGHTPLAN_NOBODY 65535
 
 /* A stack of so many bytes is enough for any of the calls, on x86-64. Measured with the heaviest inputs: lightplan_read 59264,
-   lightplan_read_routes 68896, lightplan_check 70400, lightplan_search 90496, lightplan_check_starts 49456, lightplan_frequency 40,
-   lightplan_version 8. */
-#define LIGHTPLAN_STACK 98304
+   lightplan_read_routes 68896, lightplan_check 70400, lightplan_search 72768, lightplan_groups 103280, lightplan_check_starts 49456,
+   lightplan_frequency 40, lightplan_version 8. */
+#define LIGHTPLAN_STACK 114688
 
 /* Why there is no answer. "Offset" is the byte of the file where the faulty field begins. */
 enum lightplan_refusal {
@@ -84,7 +88,8 @@ enum lightplan_refusal {
                                          lowest listing position that is too near to one before it */
     LIGHTPLAN_NO_BLOCK = 19,          /* of a call that is not offered to C */
     LIGHTPLAN_FILE_TOO_LONG = 20,     /* a file above its limit; place: the limit, 8128 for a request and 1400 for a plan */
-    LIGHTPLAN_UNKNOWN_RATE = 21       /* a bit rate other than 10, 40, 100, 400 and 1000 Gbit/s; place: offset */
+    LIGHTPLAN_UNKNOWN_RATE = 21,      /* a bit rate other than 10, 40, 100, 400 and 1000 Gbit/s; place: offset */
+    LIGHTPLAN_GROUPS_OUTSIDE = 24     /* no groups, more than 8, or more than there are demands; place: how many were asked for */
 };
 
 /* How a search came out. A struct of zeros, and a refusal, has none of these. */
@@ -93,6 +98,15 @@ enum lightplan_outcome {
     LIGHTPLAN_NOTHING_FITS = 2,    /* proved: no plan is allowed */
     LIGHTPLAN_UNFINISHED = 3,      /* the steps ran out; the best plan met so far, which may not be the best there is */
     LIGHTPLAN_UNFINISHED_EMPTY = 4 /* the steps ran out before a plan was met; there may be one */
+};
+
+/* How groups came out. A struct of zeros, and a refusal, has none of these. With as many groups as demands both say what a search that
+   finished says: every order of the demands was tried. With fewer groups neither says anything of plans that are made otherwise. */
+enum lightplan_grouping {
+    LIGHTPLAN_GROUPED = 1,      /* a plan, the best of all orders of the groups; the best there is where it ends at the bound, and where
+                                   there are as many groups as demands; else that is not known */
+    LIGHTPLAN_NOTHING_FOUND = 2 /* no order of the groups gives a plan; with as many groups as demands none is allowed, with fewer there
+                                   may be one all the same */
 };
 
 /* What a check refuses. */
@@ -136,6 +150,17 @@ struct lightplan_answer {
     uint64_t ruled;   /* orders that were ruled out without. Finished above the bound, or nothing fits: reached + ruled is K! */
 };
 
+/* What groups answer. */
+struct lightplan_grouped {
+    uint8_t refusal;                  /* 0, or a number of enum lightplan_refusal */
+    size_t place;                     /* where the fault is; 0 without one */
+    uint8_t outcome;                  /* a number of enum lightplan_grouping; 0 beside a refusal */
+    uint16_t end;                     /* the plan's end, its largest; 0 without a plan */
+    uint32_t bound;                   /* the end that no plan can be below. A plan whose end equals it is the best there is */
+    size_t groups;                    /* how many entries `order` has: as many as there are groups; 0 without a plan */
+    uint16_t order[LIGHTPLAN_GROUPS]; /* the groups' numbers, from 0, in the order that gave the plan; 0 behind the last */
+};
+
 /* What the check of a plan answers. */
 struct lightplan_verdict {
     uint8_t refusal; /* 0: the plan is allowed; else a number of enum lightplan_refusal */
@@ -176,6 +201,15 @@ struct lightplan_routes lightplan_read_routes(const uint8_t *file, size_t file_b
    the file, then 11, then 10 for starts, for order and then for blockers. */
 struct lightplan_answer lightplan_search(const uint8_t *file, size_t file_bytes, uint32_t limit, uint16_t *starts, size_t starts_count,
                                          uint16_t *order, size_t order_count, uint16_t *blockers, size_t blockers_count);
+
+/* For lists that are too long to search: cuts a request file's demands into `groups` groups, 1 to 8, places them by first fit in every
+   order of the groups, and takes the first order that gives the lowest end. The groups follow the listing: group 0 has the first demands,
+   group 1 the next ones; where the demands do not come out even, the first groups have one more. In each group first fit goes by listing.
+   With a plan the first K entries of `starts` get its starts by listing position, and those of `blockers` who keeps each demand from
+   starting lower, as in lightplan_search. Without a plan, and behind K, both buffers stay. Refusals: lightplan_read's of the file, then 10
+   for starts and then for blockers, then 24. */
+struct lightplan_grouped lightplan_groups(const uint8_t *file, size_t file_bytes, size_t groups, uint16_t *starts, size_t starts_count,
+                                          uint16_t *blockers, size_t blockers_count);
 
 /* Checks a plan file against a request file. Accepts exactly the allowed plans; the first K entries of `starts` then get the plan's
    starts by listing position. Refusals: lightplan_read's of the request file; then of the plan file 20, row by row 1, 2, 3, 14, 15 and

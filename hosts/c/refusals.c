@@ -28,6 +28,8 @@ static const struct meaning meanings[] = {
     [LIGHTPLAN_CLASH] = {"a demand clashes with an earlier one: they share a link, and the guard does not part them", position},
     [LIGHTPLAN_FILE_TOO_LONG] = {"the file is too long", "how many bytes it may have"},
     [LIGHTPLAN_UNKNOWN_RATE] = {"a demand's bit rate is none of 10, 40, 100, 400 and 1000 Gbit/s", offset},
+    [LIGHTPLAN_GROUPS_OUTSIDE] = {"it cannot be cut into so many groups: there can be 1 to 8, and no more than it has demands",
+                                  "how many were asked for"},
 };
 
 enum { MEANINGS = sizeof meanings / sizeof meanings[0] };

@@ -3,6 +3,7 @@
 use crate::bound::tested_bound;
 use crate::frames::{call_of, next_frame, Call};
 use crate::frequency::{to_block, to_frequency};
+use crate::groups::{group_orders, Grouped};
 use crate::one::{place_one, Spot};
 use crate::placing::first_fit;
 use crate::plan::{check_starts, write_plan};
@@ -44,6 +45,7 @@ pub fn answer(call: &Call, rules: &Rules) -> String {
         Call::Bound { request } => said(tested_bound(request, rules).map(|bound| format!("bound {bound}")), &[]),
         Call::FirstFit { rooms, order, request } => placed(request, order, rooms, rules),
         Call::Search { limit, rooms, request } => searched(request, *limit, rooms, rules),
+        Call::Groups { rooms, count, request } => grouped(request, *count, rooms, rules),
         Call::Check { starts, request } => {
             said(check_starts(request, starts, rules).map(|end| format!("accepted {end}")), &[])
         }
@@ -75,6 +77,17 @@ fn placed(request: &Request, order: &[usize], rooms: &[usize; 2], rules: &Rules)
     let [mut starts, mut blockers] = rooms.map(|room| vec![ENTRY; room]);
     let end = first_fit(request, order, &mut starts, &mut blockers, rules);
     said(end.map(|end| format!("placed {end}")), &[entries(&starts), entries(&blockers)])
+}
+
+/// What groups are answered with buffers of so many entries.
+fn grouped(request: &Request, count: usize, rooms: &[usize; 2], rules: &Rules) -> String {
+    let [mut starts, mut blockers] = rooms.map(|room| vec![ENTRY; room]);
+    let found = group_orders(request, count, &mut starts, &mut blockers, rules);
+    let words = |found: Option<Grouped>| match found {
+        Some(grouped) => format!("grouped {} {}", grouped.end, entries(&grouped.groups)),
+        None => "nothing".to_string(),
+    };
+    said(found.map(words), &[entries(&starts), entries(&blockers)])
 }
 
 /// The words of an answer or of a refusal, then the lent buffers.
@@ -130,7 +143,7 @@ pub fn hex(bytes: &[u8]) -> String {
     bytes.iter().map(|byte| format!("{byte:02X}")).collect()
 }
 
-fn entries(numbers: &[u16]) -> String {
+fn entries<T: ToString>(numbers: &[T]) -> String {
     if numbers.is_empty() {
         return "-".to_string();
     }

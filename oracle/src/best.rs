@@ -1,4 +1,4 @@
-//! What is said of searches on small bands, held against brute force over all plans.
+//! What is said of searches and of whole groups on small bands, held against brute force over all plans.
 
 use crate::brute::{best_end, is_plan, plans_to_try};
 use crate::frames::Call;
@@ -11,27 +11,37 @@ struct Tally {
     finished: usize,
     nothing_fits: usize,
     unfinished: usize,
+    grouped: usize,
+    nothing_found: usize,
     passed_over: usize,
     wrong: usize,
 }
 
-/// Holds the line of every search on a small band against brute force and prints the counts; false when one is wrong or
-/// none is held. Refusals are passed over.
+/// Holds the line of every search and of every call for groups on a small band against brute force and prints the counts;
+/// false when one is wrong, or when of finished, nothing fits, grouped or nothing found none is held. Refusals are passed over.
 pub fn check(calls: &[Call], lines: &[String]) -> bool {
     let mut tally = Tally::default();
     for (index, (call, line)) in calls.iter().zip(lines).enumerate() {
-        let Call::Search { request, .. } = call else { continue };
+        let (Call::Search { request, .. } | Call::Groups { request, .. }) = call else { continue };
         if small(request) && !line.starts_with("refused ") {
-            hold(index + 1, request, line, &mut tally);
+            hold(index + 1, call, request, line, &mut tally);
         } else {
             tally.passed_over += 1;
         }
     }
     println!(
-        "best ends: {} finished, {} nothing fits, {} unfinished held against brute force, {} passed over, {} wrong",
-        tally.finished, tally.nothing_fits, tally.unfinished, tally.passed_over, tally.wrong
+        "best ends: {} finished, {} nothing fits, {} unfinished, {} grouped, {} nothing found held against brute force, \
+         {} passed over, {} wrong",
+        tally.finished,
+        tally.nothing_fits,
+        tally.unfinished,
+        tally.grouped,
+        tally.nothing_found,
+        tally.passed_over,
+        tally.wrong
     );
-    calls.len() == lines.len() && tally.wrong == 0 && tally.finished > 0 && tally.nothing_fits > 0
+    let kinds = [tally.finished, tally.nothing_fits, tally.grouped, tally.nothing_found];
+    calls.len() == lines.len() && tally.wrong == 0 && kinds.iter().all(|&held| held > 0)
 }
 
 fn small(request: &Request) -> bool {
@@ -40,14 +50,20 @@ fn small(request: &Request) -> bool {
         && plans_to_try(request, &Rules::right()).is_some()
 }
 
-fn hold(frame: usize, request: &Request, line: &str, tally: &mut Tally) {
+fn hold(frame: usize, call: &Call, request: &Request, line: &str, tally: &mut Tally) {
     match line.split(' ').next() {
         Some("finished") => tally.finished += 1,
         Some("nofit") => tally.nothing_fits += 1,
+        Some("grouped") => tally.grouped += 1,
+        Some("nothing") => tally.nothing_found += 1,
         _ => tally.unfinished += 1,
     }
     let best = best_end(request, &Rules::right());
-    if agrees(request, line, best) != Some(true) {
+    let held = match call {
+        Call::Groups { count, .. } => groups_agree(request, *count, line, best),
+        _ => agrees(request, line, best),
+    };
+    if held != Some(true) {
         tally.wrong += 1;
         println!("frame {frame}: {line}; the best of all plans is {best:?}");
     }
@@ -64,6 +80,22 @@ fn agrees(request: &Request, line: &str, best: Option<i64>) -> Option<bool> {
         "nofit" => Some(best.is_none() && end == 0),
         "unfinished" => Some(best? <= end && shown()?),
         "unfinished-empty" => Some(end == 0),
+        _ => None,
+    }
+}
+
+/// With as many groups as demands the end is the best of all plans, and nothing is found exactly where there is none. With
+/// fewer groups the end may be higher, and a plan may be missed. A plan that is shown is one, and has its end.
+fn groups_agree(request: &Request, count: usize, line: &str, best: Option<i64>) -> Option<bool> {
+    let words: Vec<&str> = line.split(' ').collect();
+    let alone = count == request.demand_count;
+    match words[0] {
+        "grouped" => {
+            let end: i64 = words.get(1)?.parse().ok()?;
+            let lowest = best? == end || (!alone && best? < end);
+            Some(lowest && is_plan(request, &entries(words.get(3)?)?, end, &Rules::right())?)
+        }
+        "nothing" => Some(!alone || best.is_none()),
         _ => None,
     }
 }

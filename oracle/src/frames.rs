@@ -19,6 +19,7 @@ pub enum Call {
     Bound { request: Request },
     FirstFit { rooms: [usize; 2], order: Vec<usize>, request: Request },
     Search { limit: u64, rooms: [usize; 3], request: Request },
+    Groups { rooms: [usize; 2], count: usize, request: Request },
     Check { starts: Vec<i64>, request: Request },
     ReadPlan { room: usize, file: Vec<u8>, request: Request },
     WritePlan { room: usize, starts: Vec<i64>, request: Request },
@@ -36,6 +37,7 @@ impl Call {
             | Call::Bound { request }
             | Call::FirstFit { request, .. }
             | Call::Search { request, .. }
+            | Call::Groups { request, .. }
             | Call::Check { request, .. }
             | Call::ReadPlan { request, .. }
             | Call::WritePlan { request, .. } => Some(request),
@@ -52,6 +54,7 @@ impl Call {
             | Call::Bound { request }
             | Call::FirstFit { request, .. }
             | Call::Search { request, .. }
+            | Call::Groups { request, .. }
             | Call::Check { request, .. }
             | Call::ReadPlan { request, .. }
             | Call::WritePlan { request, .. } => *request = other,
@@ -160,6 +163,7 @@ impl<'a> Cursor<'a> {
             0x09 => Call::WritePlan { room: self.room()?, starts: self.numbers()?, request: self.raw()? },
             0x0A => Call::Frequency { band: self.band()?, start: self.two()? as i64, width: self.two()? as i64 },
             0x0B => Call::Block { band: self.band()?, n: self.number(4)? as u32 as i32 as i64, m: self.two()? as i64 },
+            0x0C => self.groups()?,
             0x20 => Call::PlaceOne { one: self.one()? },
             _ => return None,
         })
@@ -178,6 +182,11 @@ impl<'a> Cursor<'a> {
         let limit = self.number(4)?;
         let rooms = [self.room()?, self.room()?, self.room()?];
         Some(Call::Search { limit, rooms, request: self.raw()? })
+    }
+
+    fn groups(&mut self) -> Option<Call> {
+        let rooms = [self.room()?, self.room()?];
+        Some(Call::Groups { rooms, count: self.number(4)? as usize, request: self.raw()? })
     }
 
     fn standing(&mut self) -> Option<Standing> {
@@ -220,8 +229,10 @@ fn op_and_body(call: &Call) -> (u8, Vec<u8>) {
             (0x05, [rooms.map(two).concat(), numbers(&order), raw(request)].concat())
         }
         Call::Search { limit, rooms, request } => {
-            let limit = (*limit as u32).to_be_bytes().to_vec();
-            (0x06, [limit, rooms.map(two).concat(), raw(request)].concat())
+            (0x06, [four(*limit), rooms.map(two).concat(), raw(request)].concat())
+        }
+        Call::Groups { rooms, count, request } => {
+            (0x0C, [rooms.map(two).concat(), four(*count as u64), raw(request)].concat())
         }
         Call::Check { starts, request } => (0x07, [numbers(starts), raw(request)].concat()),
         Call::ReadPlan { room, file, request } => {
@@ -240,6 +251,10 @@ fn op_and_body(call: &Call) -> (u8, Vec<u8>) {
 
 fn two(value: usize) -> Vec<u8> {
     (value as u16).to_be_bytes().to_vec()
+}
+
+fn four(value: u64) -> Vec<u8> {
+    (value as u32).to_be_bytes().to_vec()
 }
 
 fn numbers(values: &[i64]) -> Vec<u8> {

@@ -4,6 +4,7 @@ use crate::answers::answer;
 use crate::blocker_laws::{blockers_hold, one_holds, stuck_holds, Given};
 use crate::frames::Call;
 use crate::frequency::{to_block, to_frequency};
+use crate::group_laws::groups_hold;
 use crate::placing::first_fit;
 use crate::plan::{check_starts, plan_bytes};
 use crate::plan_file::read_plan;
@@ -47,6 +48,7 @@ fn own_law(call: &Call, rules: &Rules) -> Option<bool> {
         Call::WriteRequest { request, .. } => one_meaning(request, rules),
         Call::FirstFit { order, request, .. } => first_fit_law(request, order, rules),
         Call::Search { limit, request, .. } => search_law(request, *limit, rules),
+        Call::Groups { count, request, .. } => groups_hold(request, *count, rules),
         Call::Check { starts, request } => first_fit_suffices(request, starts, rules),
         Call::WritePlan { starts, request, .. } => written_is_read(request, starts, rules),
         Call::Frequency { band, start, width } => there_and_back(band, *start, *width, rules),

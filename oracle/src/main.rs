@@ -9,7 +9,7 @@ use std::path::Path;
 use std::process::ExitCode;
 
 const USAGE: &str =
-    "usage: oracle answer | check-best [LINES] | check-laws | compare LINES | variants | census  < frames
+    "usage: oracle answer | check-best [LINES] | check-laws | compare LINES | variants | census | only OP  < frames
        oracle lightplan  < request
        oracle requests FOLDER | plans FOLDER  < frames
        oracle make stored | make longest | make random SEED COUNT | make small SEED COUNT
@@ -36,6 +36,7 @@ fn run(words: &[&str]) -> Result<bool, String> {
         ["check-laws"] => Ok(laws::check(&input_calls()?)),
         ["compare", lines] => Ok(compare::compare(&input()?, &text_of(Path::new(lines))?)),
         ["variants"] => Ok(variants::show(&input_calls()?)),
+        ["only", op] => print(&frames(&of_op(u8::from_str_radix(op, 16).map_err(|_| USAGE)?, input_calls()?))),
         ["census"] => print(&joined_lines(&census::census(&input_calls()?))),
         ["lightplan"] => print(lightplan::lightplan(&input()?, &Rules::right()).as_bytes()),
         ["requests", folder] => counted(requests::write_all(&input_calls()?, Path::new(folder))),
@@ -83,6 +84,10 @@ fn print(bytes: &[u8]) -> Result<bool, String> {
 
 fn frames(calls: &[Call]) -> Vec<u8> {
     calls.iter().flat_map(frame_of).collect()
+}
+
+fn of_op(op: u8, calls: Vec<Call>) -> Vec<Call> {
+    calls.into_iter().filter(|call| frame_of(call)[0] == op).collect()
 }
 
 fn joined_lines(lines: &[String]) -> Vec<u8> {

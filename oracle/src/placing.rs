@@ -42,16 +42,30 @@ fn tried(paint: &Paint, start: i64, rules: &Rules) -> bool {
 }
 
 /// What first fit came to: the starts found so far, and the demand that found none with its index in the order.
-struct Placed {
-    starts: Vec<Option<i64>>,
+pub struct Placed {
+    pub starts: Vec<Option<i64>>,
     stuck: Option<(usize, usize)>,
 }
 
 fn place_all(request: &Request, order: &[usize], rules: &Rules) -> Placed {
+    place_below(request, order, Some(top_of(request, rules)), rules)
+}
+
+/// The starts by listing position where the order fits within the band.
+pub fn fitted(request: &Request, order: &[usize], rules: &Rules) -> Option<Vec<i64>> {
+    let placed = place_all(request, order, rules);
+    if placed.stuck.is_some() {
+        return None;
+    }
+    Some(placed.starts.into_iter().flatten().collect())
+}
+
+/// First fit with every end at most at the top, if there is one.
+pub fn place_below(request: &Request, order: &[usize], top: Option<i64>, rules: &Rules) -> Placed {
     let mut placed = Placed { starts: vec![None; request.demand_count], stuck: None };
     let mut paint = Paint::to_place(request, rules);
     for (index, &position) in order.iter().enumerate().take(request.demand_count) {
-        match lowest_start(&paint, request, position, Some(top_of(request, rules)), rules) {
+        match lowest_start(&paint, request, position, top, rules) {
             Some(start) => {
                 paint.paint(&links_of(request, position, rules), start, request.width(position, rules), position);
                 placed.starts[position] = Some(start);

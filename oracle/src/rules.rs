@@ -23,6 +23,8 @@ pub struct Limits {
     pub hops_most: usize,
     pub width_least: i64,
     pub search_most: usize,
+    pub groups_least: usize,
+    pub groups_most: usize,
     pub request_bytes: usize,
     pub plan_bytes: usize,
 }
@@ -40,6 +42,7 @@ pub struct Checks {
     pub request_writer: Vec<u8>,
     pub first_fit: Vec<u8>,
     pub search: Vec<u8>,
+    pub groups: Vec<u8>,
     pub starts: Vec<u8>,
     pub plan_file: Vec<u8>,
     pub plan_row: Vec<u8>,
@@ -83,6 +86,8 @@ fn right_limits() -> Limits {
         hops_most: 32,
         width_least: 1,
         search_most: 20,
+        groups_least: 1,
+        groups_most: 8,
         request_bytes: 8128,
         plan_bytes: 1400,
     }
@@ -100,6 +105,7 @@ fn right_checks() -> Checks {
         request_writer: vec![REQUEST, 10],
         first_fit: vec![REQUEST, 12, 10, 13],
         search: vec![REQUEST, 11, 10],
+        groups: vec![REQUEST, 10, 24],
         starts: vec![REQUEST, 16, 17, 18],
         plan_file: vec![REQUEST, 20, FIELDS, 16, 18, 10],
         plan_row: vec![1, 2, 3, 14, 15, 17],

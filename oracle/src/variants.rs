@@ -31,7 +31,7 @@ fn slipped() -> Vec<Variant> {
 
 type List = fn(&mut Checks) -> &mut Vec<u8>;
 
-const LISTS: [(&str, List); 16] = [
+const LISTS: [(&str, List); 17] = [
     ("request file", |checks| &mut checks.request_file),
     ("band field", |checks| &mut checks.band_field),
     ("link field", |checks| &mut checks.link_field),
@@ -42,6 +42,7 @@ const LISTS: [(&str, List); 16] = [
     ("request writer", |checks| &mut checks.request_writer),
     ("first fit", |checks| &mut checks.first_fit),
     ("search", |checks| &mut checks.search),
+    ("groups", |checks| &mut checks.groups),
     ("check of starts", |checks| &mut checks.starts),
     ("plan file", |checks| &mut checks.plan_file),
     ("plan row", |checks| &mut checks.plan_row),
@@ -89,7 +90,7 @@ fn told(check: u8) -> String {
 
 /// A check moved further than to its neighbour's place, or left out.
 fn moved() -> Vec<Variant> {
-    let orders: [(&str, List, &[u8]); 14] = [
+    let orders: [(&str, List, &[u8]); 15] = [
         ("request in memory: no link after the demands", |checks| &mut checks.memory, &[4, 5, 6, 2]),
         ("request in memory: the demands before the links", |checks| &mut checks.memory, &[4, 6, 2, 5]),
         ("demand in memory: 3 first, as in files", |checks| &mut checks.memory_demand, &[3, 6, 8, 21, 9, 7]),
@@ -104,6 +105,7 @@ fn moved() -> Vec<Variant> {
         ("demand in memory: 21 after 7", |checks| &mut checks.memory_demand, &[6, 8, 9, 3, 7, 21]),
         ("demand in memory: 3 before 21", |checks| &mut checks.memory_demand, &[6, 8, 3, 21, 9, 7]),
         ("demand in memory: no 21", |checks| &mut checks.memory_demand, &[6, 8, 9, 3, 7]),
+        ("groups: 24 before the request's tests", |checks| &mut checks.groups, &[24, REQUEST, 10]),
     ];
     let variant = |(name, list, order): (&str, List, &[u8])| {
         let mut rules = Rules::right();
@@ -117,7 +119,7 @@ type Shift = fn(&mut Limits);
 
 /// Limits one too low or one too high.
 fn shifted() -> Vec<Variant> {
-    let shifts: [(&str, Shift); 26] = [
+    let shifts: [(&str, Shift); 30] = [
         ("n0 from -401", |limits| limits.n0_least -= 1),
         ("n0 from -399", |limits| limits.n0_least += 1),
         ("n0 to 399", |limits| limits.n0_most -= 1),
@@ -140,6 +142,10 @@ fn shifted() -> Vec<Variant> {
         ("widths from 2", |limits| limits.width_least += 1),
         ("19 demands at most for the search", |limits| limits.search_most -= 1),
         ("21 demands at most for the search", |limits| limits.search_most += 1),
+        ("groups from 0", |limits| limits.groups_least -= 1),
+        ("groups from 2", |limits| limits.groups_least += 1),
+        ("7 groups at most", |limits| limits.groups_most -= 1),
+        ("9 groups at most", |limits| limits.groups_most += 1),
         ("request files to 8,127 bytes", |limits| limits.request_bytes -= 1),
         ("request files to 8,129 bytes", |limits| limits.request_bytes += 1),
         ("plan files to 1,399 bytes", |limits| limits.plan_bytes -= 1),

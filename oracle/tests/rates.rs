@@ -269,7 +269,7 @@ fn a_frame_has_the_tag_in_front_of_each_demand() {
 fn wrong_tags_are_among_the_malformed_streams() {
     let good = frame_of(&Call::Sound { request: oracle::make::shapes::worked(384, 0) });
     let broken: Vec<Vec<u8>> = malformed().iter().map(|stream| stream[good.len()..].to_vec()).collect();
-    for op in 0x02..=0x09 {
+    for op in (0x02..=0x09).chain([0x0C]) {
         for tag in [0x00, 0x02, 0x04, 0x06] {
             let mended = |frame: &Vec<u8>| {
                 frame[0] == op && frame.len() > 5 && (5..frame.len()).any(|at| frame[at] == tag && mends(frame, at))
@@ -294,7 +294,7 @@ fn rate_slips() -> Vec<(Slip, Vec<u8>)> {
     let between = |first: Slip, last: Slip, ops: &[u8]| -> Vec<(Slip, Vec<u8>)> {
         SLIPS[number(first)..=number(last)].iter().map(|&(slip, _)| (slip, ops.to_vec())).collect()
     };
-    let all: Vec<u8> = (0x01..=0x09).collect();
+    let all: Vec<u8> = (0x01..=0x09).chain([0x0C]).collect();
     [
         between(Slip::RateZeroByWidth, Slip::RateLowByte, &all),
         between(Slip::RateEndsNoLinks, Slip::RateLongRoute, &[0x01]),
@@ -314,8 +314,8 @@ const RARE: Slip = Slip::CountPerTag;
 
 #[test]
 fn each_call_shows_the_slips_about_rates() {
-    for (calls, by_chance) in [(stored(), false), (random(1, 20_000), true)] {
-        for op in 0x01..=0x09 {
+    for (calls, by_chance) in [(stored(), false), (random(1, 25_000), true)] {
+        for op in (0x01..=0x09).chain([0x0C]) {
             let answered = Answered::of(op, &calls);
             for (slip, _) in rate_slips().into_iter().filter(|(_, ops)| ops.contains(&op)) {
                 if by_chance && slip == RARE {
@@ -330,8 +330,8 @@ fn each_call_shows_the_slips_about_rates() {
 
 #[test]
 fn each_call_shows_every_other_table() {
-    for calls in [stored(), random(1, 20_000)] {
-        for op in 0x04..=0x09 {
+    for calls in [stored(), random(1, 25_000)] {
+        for op in (0x04..=0x09).chain([0x0C]) {
             let answered = Answered::of(op, &calls);
             for (at, (rate, width)) in RATES.into_iter().enumerate() {
                 for wrong in [width - 1, width + 1] {

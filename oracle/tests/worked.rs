@@ -166,6 +166,7 @@ fn refusals_of(op: u8) -> Vec<u8> {
         0x07 => &[16, 17, 18],
         0x08 => &[20, 1, 2, 3, 14, 15, 17, 16, 18, 10],
         0x09 => &[16, 17, 18, 10],
+        0x0C => &[10, 24],
         _ => &[],
     };
     [&request, own].concat()
@@ -174,7 +175,7 @@ fn refusals_of(op: u8) -> Vec<u8> {
 #[test]
 fn stored_cases_show_every_refusal_in_every_call() {
     let seen: Vec<(u8, String)> = stored().iter().map(|call| (frame_of(call)[0], headline(call))).collect();
-    for op in 0x01..=0x0B {
+    for op in 0x01..=0x0C {
         for number in refusals_of(op) {
             let wanted = (op, format!("refused {number:>2}"));
             assert!(seen.contains(&wanted), "op {op:02X} never refuses with {number}");
@@ -291,7 +292,7 @@ fn blocker_slips() -> Vec<(Slip, Vec<u8>)> {
         SLIPS[number(first)..=number(last)].iter().map(|&(slip, _)| (slip, ops.to_vec())).collect()
     };
     [
-        between(Slip::BlockerOfPlan, Slip::BlockersInPlacingOrder, &[0x05, 0x06]),
+        between(Slip::BlockerOfPlan, Slip::BlockersInPlacingOrder, &[0x05, 0x06, 0x0C]),
         between(Slip::BlockersRoomLast, Slip::StuckBlockerAtZero, &[0x05]),
         between(Slip::FoundBlockersByListing, Slip::BlockersWrittenWithoutPlan, &[0x06]),
         between(Slip::OneEmptyCounts, Slip::OneTooWideNamed, &[0x20]),
@@ -302,7 +303,7 @@ fn blocker_slips() -> Vec<(Slip, Vec<u8>)> {
 #[test]
 fn each_call_shows_every_slip_about_blockers() {
     for calls in [stored(), random(1, 4_000)] {
-        for op in [0x05, 0x06, 0x20] {
+        for op in [0x05, 0x06, 0x0C, 0x20] {
             let answered = Answered::of(op, &calls);
             for (slip, ops) in blocker_slips() {
                 let shown = answered.differ_under(Rules { slip, ..Rules::right() });

@@ -1,7 +1,9 @@
-/* What the library answers to request files read and searched, for others to hold it against.
+/* What the library answers to request files read, searched and cut into groups, for others to hold it against.
      answers frames REQUEST..   frames for the second program, see docs/REPLAY.md: for each file its reading, and where it is accepted a
                                 search with room to spare, and one with each of the three buffers short, just enough and longer, with
-                                every other
+                                every other; groups of up to 9, of long lists up to 4, and of a number that there cannot be, with
+                                room to spare, and of one number with each of the two buffers short, just enough and longer, with the
+                                other
      answers lines REQUEST..    the lines that belong to these frames, from the library's answers
      answers words REQUEST      the lines that lightdesk prints of a search between the rows and the last one, from the bytes of the file,
                                 the starts and the order
@@ -17,6 +19,11 @@ enum { LIMIT = 2000, LIMIT_OF_ROOMS = 40, LIMIT_OF_WORDS = 1000000, MOST_ROOM = 
 struct search {
     uint32_t limit;
     size_t room[3];
+};
+
+/* one call of groups: how many, and how many entries are lent for starts and blockers */
+struct grouping {
+    size_t groups, room[2];
 };
 
 static uint8_t file[LIGHTPLAN_REQUEST_BYTES + 1];
@@ -82,13 +89,26 @@ static void put_request(void)
     }
 }
 
+/* how many bytes that takes */
+static size_t request_bytes(void) { return 5 + 2 + 2 * seen.links + 2 + 6 * seen.demands + seen.all_hops; }
+
 static void put_frame(const struct search *search)
 {
     put(1, 6);
-    put(4, 4 + 3 * 2 + 5 + 2 + 2 * seen.links + 2 + 6 * seen.demands + seen.all_hops);
+    put(4, 4 + 3 * 2 + request_bytes());
     put(4, search->limit);
     for (int b = 0; b < 3; b++)
         put(2, search->room[b]);
+    put_request();
+}
+
+static void put_grouping(const struct grouping *grouping)
+{
+    put(1, 0x0C);
+    put(4, 2 * 2 + 4 + request_bytes());
+    for (int b = 0; b < 2; b++)
+        put(2, grouping->room[b]);
+    put(4, grouping->groups);
     put_request();
 }
 
@@ -162,7 +182,27 @@ static void print_line(const struct search *search)
     putchar('\n');
 }
 
-/* ---- the searches of a file */
+static void print_grouping(const struct grouping *grouping)
+{
+    uint16_t lent[2][MOST_ROOM];
+    const size_t *room = grouping->room;
+    for (size_t k = 0; k < MOST_ROOM; k++)
+        lent[0][k] = lent[1][k] = ENTRY;
+    struct lightplan_grouped g = lightplan_groups(seen.file, seen.bytes, grouping->groups, lent[0], room[0], lent[1], room[1]);
+    if (g.refusal)
+        printf("refused %u %zu", g.refusal, g.place);
+    else if (g.outcome == LIGHTPLAN_NOTHING_FOUND)
+        printf("nothing");
+    else {
+        printf("grouped %u", g.end);
+        print_entries(g.order, g.groups);
+    }
+    for (int b = 0; b < 2; b++)
+        print_entries(lent[b], room[b]);
+    putchar('\n');
+}
+
+/* ---- the calls that are made of a file */
 
 static void each_search(void (*make)(const struct search *search))
 {
@@ -170,6 +210,18 @@ static void each_search(void (*make)(const struct search *search))
     make(&(struct search){LIMIT, {k + 3, k + 1, k + 2}});
     for (int pick = 0; pick < 27; pick++)
         make(&(struct search){LIMIT_OF_ROOMS, {room[pick / 9], room[pick / 3 % 3], room[pick % 3]}});
+}
+
+static void each_grouping(void (*make)(const struct grouping *grouping))
+{
+    size_t k = seen.demands, least = k ? k - 1 : 0, room[3] = {least, k, k + 2};
+    /* the second program tries every order from its start, so long lists are cut into few groups */
+    size_t most = k > LIGHTPLAN_SEARCHED ? 4 : LIGHTPLAN_GROUPS + 1;
+    for (size_t groups = 0; groups <= most; groups++)
+        make(&(struct grouping){groups, {k + 3, k + 1}});
+    make(&(struct grouping){UINT32_MAX, {k, k}});
+    for (int pick = 0; pick < 9; pick++)
+        make(&(struct grouping){2, {room[pick / 3], room[pick % 3]}});
 }
 
 /* ---- words */
@@ -220,9 +272,10 @@ int main(int count, char **words)
             print_reading();
         if (!accepted)
             continue;
-        if (frames || lines)
+        if (frames || lines) {
             each_search(frames ? put_frame : print_line);
-        else if (rates_alone)
+            each_grouping(frames ? put_grouping : print_grouping);
+        } else if (rates_alone)
             print_rates();
         else
             print_words();

@@ -9,7 +9,7 @@
 #include <stdlib.h>
 #include <string.h>
 
-enum { STEPS = 3000, PLENTY = 203, PLENTY_OF_HOPS = 6403, NAME_BYTES = 4096 };
+enum { STEPS = 3000, TRIED_GROUPS = 5, PLENTY = 203, PLENTY_OF_HOPS = 6403, NAME_BYTES = 4096 };
 
 static const char *now_testing = "no file";
 static unsigned long compared;
@@ -322,6 +322,97 @@ static void test_search(const struct seen *seen)
         hold_rooms(seen, &answer, &found);
 }
 
+/* ---- lightplan_groups */
+
+static struct lightplan_grouped groups_with(const uint8_t *file, size_t bytes, size_t groups, size_t starts, size_t blockers)
+{
+    uint16_t *first = lent_out(&first_lent, 2 * starts), *second = lent_out(&second_lent, 2 * blockers);
+    return lightplan_groups(file, bytes, groups, first, starts, second, blockers);
+}
+
+/* whether an order has these entries, and 0 behind them */
+static int is_group_order(const uint16_t *order, const uint16_t *groups, size_t count)
+{
+    static const uint16_t none[LIGHTPLAN_GROUPS];
+    return !memcmp(order, groups, 2 * count) && !memcmp(order + count, none, 2 * (LIGHTPLAN_GROUPS - count));
+}
+
+/* a refusal: nothing else is told, nothing is written */
+static void hold_no_groups(struct lightplan_grouped grouped, unsigned refusal, size_t place)
+{
+    HOLD(grouped.refusal == refusal && grouped.place == place);
+    HOLD(grouped.outcome == 0 && grouped.end == 0 && grouped.bound == 0 && grouped.groups == 0);
+    HOLD(is_group_order(grouped.order, grouped.order, 0));
+    HOLD(lent_kept(&first_lent, 0) && lent_kept(&second_lent, 0));
+}
+
+/* a plan of so many groups: as first fit makes it of this order of theirs, allowed, with who is in the way */
+static void hold_grouped_plan(const struct seen *seen, const struct lightplan_grouped *grouped, const uint16_t *groups, size_t count,
+                              const uint16_t *starts)
+{
+    size_t k = seen->demands;
+    uint16_t order[LIGHTPLAN_DEMANDS], blockers[LIGHTPLAN_DEMANDS];
+    HOLD(grouped->outcome == LIGHTPLAN_GROUPED && grouped->end == end_of(seen, starts));
+    HOLD(grouped->groups == count && is_group_order(grouped->order, groups, count));
+    members_of(seen, groups, count, order);
+    blockers_of(seen, starts, order, blockers);
+    HOLD(!memcmp(first_lent.first + LENT_BYTES - first_lent.bytes, starts, 2 * k));
+    HOLD(!memcmp(second_lent.first + LENT_BYTES - second_lent.bytes, blockers, 2 * k));
+    HOLD(lent_kept(&first_lent, 2 * k) && lent_kept(&second_lent, 2 * k));
+}
+
+/* so many groups, within some room, answer as all their orders do that are tried one after the other */
+static void hold_groups(const struct seen *seen, size_t count, size_t starts_room, size_t blockers_room)
+{
+    uint16_t groups[LIGHTPLAN_GROUPS], starts[LIGHTPLAN_DEMANDS];
+    uint32_t end = best_of_groups(seen, count, groups, starts);
+    struct lightplan_grouped grouped = groups_with(seen->file, seen->bytes, count, starts_room, blockers_room);
+    HOLD(grouped.refusal == LIGHTPLAN_ANSWERED && grouped.place == 0 && grouped.bound == seen->bound);
+    if (end != NO_END) {
+        hold_grouped_plan(seen, &grouped, groups, count, starts);
+        hold_allowed(seen, starts);
+        return;
+    }
+    HOLD(grouped.outcome == LIGHTPLAN_NOTHING_FOUND && grouped.end == 0 && grouped.groups == 0);
+    HOLD(is_group_order(grouped.order, groups, 0) && lent_kept(&first_lent, 0) && lent_kept(&second_lent, 0));
+}
+
+/* with a group for each demand groups find the end of a finished search, and nothing where nothing fits */
+static void hold_groups_searched(const struct seen *seen)
+{
+    size_t k = seen->demands;
+    struct found found;
+    struct lightplan_answer answer = hold_search(seen, UINT32_MAX, each(k), &found);
+    struct lightplan_grouped grouped = groups_with(seen->file, seen->bytes, k, k, k);
+    HOLD((grouped.outcome == LIGHTPLAN_GROUPED) == (answer.outcome == LIGHTPLAN_FINISHED) && grouped.end == answer.end);
+    HOLD(is_group_order(grouped.order, found.order, grouped.groups));
+}
+
+/* numbers of groups that there are not, and a buffer that is short, which is told first */
+static void hold_groups_refused(const struct seen *seen)
+{
+    size_t k = seen->demands, most = k < LIGHTPLAN_GROUPS ? k : LIGHTPLAN_GROUPS, bad[] = {0, most + 1, 9, 201, SIZE_MAX};
+    for (size_t b = 0; b < sizeof bad / sizeof bad[0]; b++) {
+        hold_no_groups(groups_with(seen->file, seen->bytes, bad[b], k, k), LIGHTPLAN_GROUPS_OUTSIDE, bad[b]);
+        hold_no_groups(groups_with(seen->file, seen->bytes, bad[b], PLENTY, PLENTY), LIGHTPLAN_GROUPS_OUTSIDE, bad[b]);
+        if (k == 0)
+            continue;
+        hold_no_groups(groups_with(seen->file, seen->bytes, bad[b], k - 1, k), LIGHTPLAN_BUFFER_SHORT, k);
+        hold_no_groups(groups_with(seen->file, seen->bytes, bad[b], PLENTY, k - 1), LIGHTPLAN_BUFFER_SHORT, k);
+        hold_no_groups(groups_with(seen->file, seen->bytes, 1, 0, 0), LIGHTPLAN_BUFFER_SHORT, k);
+    }
+}
+
+static void test_groups(const struct seen *seen)
+{
+    size_t k = seen->demands, most = k < TRIED_GROUPS ? k : TRIED_GROUPS;
+    hold_groups_refused(seen);
+    for (size_t count = 1; count <= most; count++)
+        hold_groups(seen, count, count % 2 ? PLENTY : k, count % 3 ? k : PLENTY);
+    if (0 < k && k <= LIGHTPLAN_GROUPS)
+        hold_groups_searched(seen);
+}
+
 /* ---- lightplan_check */
 
 static struct lightplan_verdict check_with(const struct seen *seen, const uint8_t *plan, size_t bytes, size_t room)
@@ -400,7 +491,9 @@ static void test_frequencies(void)
 static void test_version(void)
 {
     struct lightplan_answer zeros = {0};
+    struct lightplan_grouped no_groups = {0};
     HOLD(lightplan_version() == LIGHTPLAN_VERSION);
+    HOLD(no_groups.outcome != LIGHTPLAN_GROUPED && no_groups.outcome != LIGHTPLAN_NOTHING_FOUND);
     HOLD(zeros.outcome != LIGHTPLAN_FINISHED && zeros.outcome != LIGHTPLAN_NOTHING_FITS && zeros.outcome != LIGHTPLAN_UNFINISHED &&
          zeros.outcome != LIGHTPLAN_UNFINISHED_EMPTY);
 }
@@ -414,6 +507,8 @@ static void test_nothing(void)
     HOLD(answer.refusal == LIGHTPLAN_WRONG_TAG && answer.place == 0);
     struct lightplan_routes routes = lightplan_read_routes(NULL, 0, NULL, 0, NULL, 0, NULL, 0);
     HOLD(routes.refusal == LIGHTPLAN_WRONG_TAG && routes.place == 0);
+    struct lightplan_grouped grouped = lightplan_groups(NULL, 0, 1, NULL, 0, NULL, 0);
+    HOLD(grouped.refusal == LIGHTPLAN_WRONG_TAG && grouped.place == 0);
     hold_verdict(lightplan_check(NULL, 0, NULL, 0, NULL, 0), LIGHTPLAN_WRONG_TAG, 0, LIGHTPLAN_OF_REQUEST);
     hold_verdict(lightplan_check_starts(NULL, 0, NULL, 0), LIGHTPLAN_WRONG_TAG, 0, LIGHTPLAN_OF_REQUEST);
 }
@@ -430,6 +525,8 @@ static void test_no_demand(void)
     HOLD(routes.refusal == LIGHTPLAN_ANSWERED && routes.links == 1 && routes.demands == 0 && routes.hops == 0);
     HOLD(ends[0] == 0 && ends[1] == 1);
     HOLD(answer.refusal == LIGHTPLAN_ANSWERED && answer.outcome == LIGHTPLAN_FINISHED && answer.steps == 0 && answer.reached == 1);
+    struct lightplan_grouped grouped = lightplan_groups(file, sizeof file, 1, NULL, 0, NULL, 0);
+    HOLD(grouped.refusal == LIGHTPLAN_GROUPS_OUTSIDE && grouped.place == 1);
     hold_plan(lightplan_check(file, sizeof file, NULL, 0, NULL, 0), LIGHTPLAN_ANSWERED, 0);
     hold_plan(lightplan_check_starts(file, sizeof file, NULL, 0), LIGHTPLAN_ANSWERED, 0);
 }
@@ -480,6 +577,32 @@ static void test_known(void)
     hold_plan(lightplan_check_starts(file, sizeof file, clashing, 3), LIGHTPLAN_CLASH, 2);
     hold_plan(lightplan_check_starts(file, sizeof file, NULL, 0), LIGHTPLAN_NO_ROW, 0);
     hold_plan(lightplan_check(file, sizeof file, NULL, 0, NULL, 0), LIGHTPLAN_NO_ROW, 0);
+}
+
+/* three demands on two links in two groups, with every number known: the second group, of one demand, goes first. One group would end
+   outside the band, and nothing fits into a band of three slots */
+static void test_known_groups(void)
+{
+    uint8_t file[43] = {
+        1, 0, 5, 254, 228, 0, 5, 0,
+        2, 0, 2, 0, 1,
+        2, 0, 2, 1, 2,
+        3, 0, 5, 0, 10, 0, 2, 0,
+        3, 0, 6, 0, 20, 0, 1, 0, 1,
+        3, 0, 5, 0, 30, 0, 3, 1,
+    };
+    static const uint16_t starts[3] = {0, 3, 0}, blockers[3] = {LIGHTPLAN_NOBODY, 2, LIGHTPLAN_NOBODY}, groups[2] = {1, 0};
+    struct lightplan_grouped grouped = groups_with(file, sizeof file, 2, 3, 3);
+    HOLD(grouped.refusal == LIGHTPLAN_ANSWERED && grouped.outcome == LIGHTPLAN_GROUPED && grouped.end == 4 && grouped.bound == 4);
+    HOLD(grouped.groups == 2 && is_group_order(grouped.order, groups, 2));
+    HOLD(!memcmp(first_lent.first + LENT_BYTES - 6, starts, 6) && !memcmp(second_lent.first + LENT_BYTES - 6, blockers, 6));
+    grouped = groups_with(file, sizeof file, 1, 3, 3);
+    HOLD(grouped.refusal == LIGHTPLAN_ANSWERED && grouped.outcome == LIGHTPLAN_NOTHING_FOUND && grouped.end == 0 && grouped.bound == 4);
+    HOLD(grouped.groups == 0 && lent_kept(&first_lent, 0) && lent_kept(&second_lent, 0));
+    file[6] = 3;
+    grouped = groups_with(file, sizeof file, 3, PLENTY, PLENTY);
+    HOLD(grouped.refusal == LIGHTPLAN_ANSWERED && grouped.outcome == LIGHTPLAN_NOTHING_FOUND && grouped.end == 0 && grouped.bound == 4);
+    HOLD(grouped.groups == 0 && lent_kept(&first_lent, 0) && lent_kept(&second_lent, 0));
 }
 
 /* four demands with a guard of 1: two end where the third is kept, and the one that is listed first is named */
@@ -564,6 +687,8 @@ static void test_refused(const uint8_t *file, size_t bytes, const struct lightpl
     hold_no_routes(routes_with(file, bytes, 0, 0, 0), request->refusal, request->place);
     hold_no_answer(search_with(file, bytes, STEPS, each(PLENTY)), request->refusal, request->place);
     hold_no_answer(search_with(file, bytes, 0, each(0)), request->refusal, request->place);
+    hold_no_groups(groups_with(file, bytes, 1, PLENTY, PLENTY), request->refusal, request->place);
+    hold_no_groups(groups_with(file, bytes, 0, 0, 0), request->refusal, request->place);
     hold_verdict(check_with(&seen, (const uint8_t *)&none, 0, 0), request->refusal, request->place, LIGHTPLAN_OF_REQUEST);
     hold_verdict(check_with(&seen, (const uint8_t *)&none, 2, PLENTY), request->refusal, request->place, LIGHTPLAN_OF_REQUEST);
     HOLD(lent_kept(&first_lent, 0));
@@ -588,6 +713,7 @@ static void test_file(const char *name)
     test_read(&seen);
     test_routes(&seen);
     test_search(&seen);
+    test_groups(&seen);
     snprintf(plan_name, sizeof plan_name, "%.*s.plan", (int)stem, name);
     if (lend_file(plan_name, &plan_lent, &plan, &plan_bytes))
         test_plan(&seen, plan, plan_bytes);
@@ -607,6 +733,7 @@ int main(int count, char **words)
     test_nothing();
     test_no_demand();
     test_known();
+    test_known_groups();
     test_blocked();
     test_rates();
     for (int k = 1; k < count; k++) {

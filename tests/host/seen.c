@@ -1,4 +1,5 @@
 #include "seen.h"
+#include <string.h>
 
 static unsigned two(const uint8_t *bytes) { return bytes[0] * 256u + bytes[1]; }
 
@@ -89,6 +90,86 @@ void blockers_of(const struct seen *seen, const uint16_t *starts, const uint16_t
                 blockers[k] = other;
         }
     }
+}
+
+void members_of(const struct seen *seen, const uint16_t *groups, size_t count, uint16_t *order)
+{
+    for (size_t turn = 0; turn < count; turn++) {
+        size_t from = 0, to = 0;
+        for (size_t group = 0; group <= groups[turn]; group++) {
+            from = to;
+            to += seen->demands / count + (group < seen->demands % count);
+        }
+        while (from < to)
+            *order++ = (uint16_t)from++;
+    }
+}
+
+/* the lowest start of a demand beside the first ones of an order, which stand: whoever is too near pushes it up to its end and guard */
+static unsigned lowest_start(const struct seen *seen, size_t k, const uint16_t *order, size_t placed, const uint16_t *starts)
+{
+    unsigned start = 0;
+    for (size_t before = 0; before < placed;) {
+        size_t other = order[before++];
+        if (too_near(seen, k, start, other, starts[other])) {
+            start = starts[other] + seen->widths[other] + seen->guard;
+            before = 0;
+        }
+    }
+    return start;
+}
+
+/* first fit along an order: the end, or NO_END where one ends outside the band */
+static uint32_t first_fit(const struct seen *seen, const uint16_t *order, uint16_t *starts)
+{
+    for (size_t turn = 0; turn < seen->demands; turn++) {
+        unsigned start = lowest_start(seen, order[turn], order, turn, starts);
+        if (start + seen->widths[order[turn]] > seen->slots)
+            return NO_END;
+        starts[order[turn]] = (uint16_t)start;
+    }
+    return end_of(seen, starts);
+}
+
+static void swap(uint16_t *one, uint16_t *other)
+{
+    uint16_t held = *one;
+    *one = *other;
+    *other = held;
+}
+
+/* the order that is listed next behind this one; 0 behind the last */
+static int next_order(uint16_t *order, size_t count)
+{
+    size_t falls = count - 1, higher = count - 1;
+    while (falls > 0 && order[falls - 1] > order[falls])
+        falls--;
+    if (falls == 0)
+        return 0;
+    while (order[higher] < order[falls - 1])
+        higher--;
+    swap(&order[falls - 1], &order[higher]);
+    for (size_t low = falls, high = count - 1; low < high; low++, high--)
+        swap(&order[low], &order[high]);
+    return 1;
+}
+
+uint32_t best_of_groups(const struct seen *seen, size_t count, uint16_t *groups, uint16_t *starts)
+{
+    uint16_t tried[LIGHTPLAN_GROUPS], order[LIGHTPLAN_DEMANDS], placed[LIGHTPLAN_DEMANDS];
+    uint32_t best = NO_END;
+    for (size_t group = 0; group < count; group++)
+        tried[group] = (uint16_t)group;
+    do {
+        members_of(seen, tried, count, order);
+        uint32_t end = first_fit(seen, order, placed);
+        if (end < best) {
+            best = end;
+            memcpy(groups, tried, 2 * count);
+            memcpy(starts, placed, 2 * seen->demands);
+        }
+    } while (next_order(tried, count));
+    return best;
 }
 
 uint64_t orders_of(size_t count) { return count ? count * orders_of(count - 1) : 1; }

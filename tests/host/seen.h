@@ -38,6 +38,15 @@ void blockers_of(const struct seen *seen, const uint16_t *starts, const uint16_t
 uint64_t orders_of(size_t count);
 uint64_t rank_of(const uint16_t *order, size_t count);
 
+/* The listing positions group by group: so many groups in this order, cut from the listing so that the first ones have one demand more
+   where the demands do not come out even. */
+void members_of(const struct seen *seen, const uint16_t *groups, size_t count, uint16_t *order);
+
+/* The best of all orders of so many groups, 1 to 8, which are tried one after the other as they are listed: the first that gives the
+   lowest end inside the band, its starts, and that end; NO_END where none gives a plan. */
+enum { NO_END = 65535 };
+uint32_t best_of_groups(const struct seen *seen, size_t count, uint16_t *groups, uint16_t *starts);
+
 /* The number that a block is refused with, or 0. */
 unsigned block_fault(int n0, unsigned slots, unsigned guard, unsigned start, unsigned width);
 

@@ -60,6 +60,19 @@ enum fault {
     RATES_BEHIND,
     RATES_REFUSED,
     RATES_ROOM,
+    GROUPS_END,
+    GROUPS_BOUND,
+    GROUPS_ORDER,
+    GROUPS_COUNT,
+    GROUPS_START,
+    GROUPS_BLOCKER,
+    GROUPS_FOUND,
+    GROUPS_BEHIND,
+    GROUPS_WRITES_WITHOUT,
+    GROUPS_WRITES_REFUSED,
+    GROUPS_PLACE,
+    GROUPS_BEFORE_ROOM,
+    GROUPS_BY_LISTING,
     FAULTS
 };
 
@@ -218,6 +231,43 @@ struct lightplan_answer __wrap_lightplan_search(const uint8_t *file, size_t file
     if (plan && is(SEARCH_BEHIND))
         starts[starts_count - 1] = 0;
     return a;
+}
+
+struct lightplan_grouped __real_lightplan_groups(const uint8_t *, size_t, size_t, uint16_t *, size_t, uint16_t *, size_t);
+
+/* a plan told otherwise: its numbers, its group order, its buffers */
+static void spoil_groups(struct lightplan_grouped *g, uint16_t *starts, size_t starts_count, uint16_t *blockers)
+{
+    g->end += is(GROUPS_END);
+    g->bound += is(GROUPS_BOUND);
+    g->groups -= is(GROUPS_COUNT) && g->groups > 1;
+    if (is(GROUPS_ORDER))
+        g->order[0] = g->order[g->groups - 1];
+    if (is(GROUPS_START))
+        starts[0]++;
+    if (is(GROUPS_BLOCKER))
+        blockers[0] = blockers[0] == LIGHTPLAN_NOBODY ? 0 : LIGHTPLAN_NOBODY;
+    if (is(GROUPS_BEHIND))
+        starts[starts_count - 1] = 0;
+}
+
+struct lightplan_grouped __wrap_lightplan_groups(const uint8_t *file, size_t file_bytes, size_t groups, uint16_t *starts,
+                                                 size_t starts_count, uint16_t *blockers, size_t blockers_count)
+{
+    size_t asked = is(GROUPS_BY_LISTING) && groups <= LIGHTPLAN_GROUPS ? 1 : groups;
+    struct lightplan_grouped g = __real_lightplan_groups(file, file_bytes, asked, starts, starts_count, blockers, blockers_count);
+    g.place += is(GROUPS_PLACE) && g.refusal;
+    if (g.refusal == LIGHTPLAN_BUFFER_SHORT && groups > LIGHTPLAN_GROUPS && is(GROUPS_BEFORE_ROOM))
+        g = (struct lightplan_grouped){.refusal = LIGHTPLAN_GROUPS_OUTSIDE, .place = groups};
+    if (starts_count && g.refusal && is(GROUPS_WRITES_REFUSED))
+        starts[0] = 0;
+    if (blockers_count && g.outcome == LIGHTPLAN_NOTHING_FOUND && is(GROUPS_WRITES_WITHOUT))
+        blockers[0] = 0;
+    if (g.outcome == LIGHTPLAN_NOTHING_FOUND && is(GROUPS_FOUND))
+        g.outcome = LIGHTPLAN_GROUPED;
+    if (g.outcome == LIGHTPLAN_GROUPED && g.groups)
+        spoil_groups(&g, starts, starts_count, blockers);
+    return g;
 }
 
 struct lightplan_verdict __real_lightplan_check(const uint8_t *, size_t, const uint8_t *, size_t, uint16_t *, size_t);

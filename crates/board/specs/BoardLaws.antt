@@ -2,18 +2,19 @@
 use Prim.Native.Nat.{ℕ, zero, suc, _+_, _-_, _≤_, _<_, min}
 use mathlib.Core.Bool.{Bool}
 use mathlib.Core.List.{List}
-use mathlib.Core.Path.{_≡_, sym, ap, _∙_}
+use mathlib.Core.Path.{_≡_, refl, sym, ap, _∙_}
 use native.Mathlib.Omega.{arith}
-use lib.Dec.{leb}
-use borrow.Author.Tests.{leb-true, leb-false, le-leb, lt-leb}
+use lib.Dec.{leb, ltb}
+use borrow.Author.Tests.{leb-true, leb-false, le-leb, lt-leb, ltb-true, ltb-false, lt-ltb, le-ltb}
 use Rattle.theory.specs.Problem.{Problem, Row, endOf, lowest}
 use Rattle.theory.specs.Blocker as theory
 use Rattle.theory.specs.TestLaws.{by-test}
 use Rattle.theory.specs.ProblemLaws.{end-is}
 use Rattle.theory.specs.BlockerLaws.{lowest-same, blocker-same, below-same}
 use Rattle.theory.specs.inner.Clashes.{SameClashes}
-use Rattle.board.specs.inner.Near.{nearProblem, PastEnds}
+use Rattle.board.specs.inner.Near.{nearProblem, PastEnds, spotBelow}
 use Rattle.board.specs.StandingLaws.{near-clashes}
+use Rattle.board.specs.declared.Spot.{Spot}
 use Rattle.board.specs.declared.Spot.the-variants.{At, Nowhere}
 use Rattle.board.specs.declared.Blocker.{Blocker}
 use Rattle.board.specs.declared.Placement.{Placement}
@@ -128,6 +129,16 @@ module _ (P : Problem) (rows : List Row) (i : ℕ) (Q : Problem) (others : List 
           last-below Q others j slots s (omega arith),
         )
 
+-- a scan that ends below its limit has found a start
+pub below-at : (start above : ℕ) → start < above → spotBelow start above ≡ At start
+unfolding spotBelow
+below-at start above h = rw (lt-ltb start above h)
+
+-- one that ends at its limit has found none
+pub below-nowhere : (start above : ℕ) → above ≤ start → spotBelow start above ≡ Nowhere
+unfolding spotBelow
+below-nowhere start above h = rw (le-ltb start above h)
+
 module _ (meets : List Bool) (starts ends : List ℕ) (count width guard slots numbers : ℕ) (past : List ℕ) (span above start : ℕ) (blocker : Blocker)
     (many : numbers ≡ min count 200) (known : PastEnds meets starts ends guard numbers past) (wide : span ≡ width + guard)
     (limit : above ≡ (slots + 1) - width)
@@ -138,7 +149,7 @@ module _ (meets : List Bool) (starts ends : List ℕ) (count width guard slots n
   clashes = near-clashes meets starts ends guard numbers past known (omega arith) width span wide
 
   -- the scan over blocks ends below the limit: the demand is placed there
-  pub one-found : start < above → record { spot = At start; blocker = blocker } ≡ placedOne meets starts ends count width guard slots
+  one-found : start < above → record { spot = At start; blocker = blocker } ≡ placedOne meets starts ends count width guard slots
   unfolding placedOne boardProblem
   one-found h =
       beside-found (nearProblem past starts span) (numberRows numbers starts) 200
@@ -147,13 +158,36 @@ module _ (meets : List Bool) (starts ends : List ℕ) (count width guard slots n
       ∙ ap (λ (n : ℕ). placedBeside (boardProblem meets starts ends width guard) (numberRows n starts) 200 slots) many
 
   -- it ends at the limit: the demand is placed nowhere
-  pub one-missed : above ≤ start → record { spot = Nowhere; blocker = blocker } ≡ placedOne meets starts ends count width guard slots
+  one-missed : above ≤ start → record { spot = Nowhere; blocker = blocker } ≡ placedOne meets starts ends count width guard slots
   unfolding placedOne boardProblem
   one-missed h =
       beside-missed (nearProblem past starts span) (numberRows numbers starts) 200
       (boardProblem meets starts ends width guard) (numberRows numbers starts) 200 clashes slots start blocker
       (omega (arith, found, limit)) told (omega (arith, limit))
       ∙ ap (λ (n : ℕ). placedBeside (boardProblem meets starts ends width guard) (numberRows n starts) 200 slots) many
+
+  -- so the answer is what the scan has found, with the blocker below it
+  pub one-placed : record { spot = spotBelow start above; blocker = blocker } ≡ placedOne meets starts ends count width guard slots
+  one-placed =
+      by-test (ltb start above)
+      (λ t.
+      let h : start < above = ltb-true start above t in
+      rw (below-at start above h) (one-found h))
+      (λ f.
+      let h : above ≤ start = ltb-false start above f in
+      rw (below-nowhere start above h) (one-missed h))
+
+module _ (meets : List Bool) (starts ends : List ℕ) (count width guard slots numbers : ℕ) (past : List ℕ) (span above start : ℕ)
+    (many : numbers ≡ min count 200) (known : PastEnds meets starts ends guard numbers past) (wide : span ≡ width + guard)
+    (limit : above ≡ (slots + 1) - width)
+    (found : start ≡ min (lowest (nearProblem past starts span) (numberRows numbers starts) 200) above) where
+  -- where the demand starts is known without the blocker
+  pub spot-placed : spotBelow start above ≡ placedOne meets starts ends count width guard slots .spot
+  spot-placed =
+      ap (λ (p : Placement). p .spot)
+      (one-placed meets starts ends count width guard slots numbers past span above start
+      (blockerTold (theory.blockerBelow (nearProblem past starts span) (numberRows numbers starts) 200 start))
+      many known wide limit found refl)
 
 -- a caller with a problem of his own, in which the same numbers clash, gets his own answer
 pub place-one-same : (P : Problem) (rows : List Row) (i : ℕ) (meets : List Bool) (starts ends : List ℕ) (count width guard slots : ℕ) →
@@ -168,6 +202,11 @@ place-one-same P rows i meets starts ends count width guard slots wide clashes =
 pub same-place-one : (meets : List Bool) (starts ends : List ℕ) (count width guard slots : ℕ) (a b : Placement) →
     a ≡ placedOne meets starts ends count width guard slots → b ≡ placedOne meets starts ends count width guard slots → a ≡ b
 same-place-one meets starts ends count width guard slots a b ha hb = ha ∙ sym hb
+
+-- two results of the call for its spot alone are equal
+pub same-lowest-spot : (meets : List Bool) (starts ends : List ℕ) (count width guard slots : ℕ) (a b : Spot) →
+    a ≡ placedOne meets starts ends count width guard slots .spot → b ≡ placedOne meets starts ends count width guard slots .spot → a ≡ b
+same-lowest-spot meets starts ends count width guard slots a b ha hb = ha ∙ sym hb
 
 -- two results of the call for a blocker's entry are equal
 pub same-entry : (blocker : Blocker) (a b : ℕ) → a ≡ entryOf blocker → b ≡ entryOf blocker → a ≡ b

@@ -3,6 +3,7 @@ pub mod Board
 pub mod ScanLaws
 pub mod StandingLaws
 pub mod BoardLaws
+pub mod BesideLaws
 pub mod Named
 pub mod NamedLaws
 pub mod inner

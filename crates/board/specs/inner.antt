@@ -1,2 +1,3 @@
 -- Definitions that no promise speaks of.
 pub mod Near
+pub mod Standing

@@ -7,7 +7,9 @@ use standing::first_above;
 use standing::past_ends;
 use standing::sum;
 ghost use mathlib.Core.Path.{_≡_};
+ghost use Prim.Native.Nat.{_≤_};
 ghost use Rattle.board.specs.Board.{placedOne, entryOf};
+ghost use Rattle.board.specs.inner.Near.{spotBelow};
 
 mod blocking;
 mod scan;
@@ -63,10 +65,37 @@ pub fn place_one(
     let above = first_above(width, slots);
     let start = lowest_below(&past, starts, numbers, span, above);
     let blocker = blocker_below(&past, starts, numbers, span, start);
-    let spot = if start < above {
+    let spot = spot_below(start, above);
+    Placement { spot, blocker }
+}
+
+// The spot of `place_one` alone, for who asks often and needs no blocker.
+pub fn lowest_spot(
+    meets: &[bool; 200],
+    starts: &[u16; 200],
+    ends: &[u16; 200],
+    count: usize,
+    width: u16,
+    guard: u16,
+    slots: u16,
+) -> Spot
+    ensures { λ r. ⌜ r ≡ placedOne (now (meets .entry)) (now (starts .entry)) (now (ends .entry)) count width guard slots .spot ⌝ }
+{
+    let numbers = at_most_200(count);
+    let past = past_ends(meets, starts, ends, numbers, guard);
+    let above = first_above(width, slots);
+    let lowest = lowest_below(&past, starts, numbers, sum(width, guard), above);
+    spot_below(lowest, above)
+}
+
+// What a scan that stops at a limit has found: a start below the limit is a spot.
+fn spot_below(start: u32, above: u32) -> Spot
+    requires { ⌜ above ≤ 65536 ⌝ }
+    ensures { λ r. ⌜ r ≡ spotBelow start above ⌝ }
+{
+    if start < above {
         Spot::At(start as u16)
     } else {
         Spot::Nowhere
-    };
-    Placement { spot, blocker }
+    }
 }

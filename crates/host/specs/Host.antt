@@ -2,7 +2,7 @@
 use Prim.Native.Nat.{ℕ}
 use mathlib.Core.Bool.{cond}
 use mathlib.Core.List.{List}
-use lib.ListN.{length}
+use lib.ListN.{length, replicate}
 use lib.Dec.{eqb}
 use lib.IntN.{ℤ, pos}
 use Rattle.refusal.specs.declared.Refusal.{Refusal}
@@ -21,6 +21,10 @@ use Rattle.search.specs.declared.SearchReply.{SearchReply}
 use Rattle.search.specs.declared.SearchReply.the-variants as search-reply
 use Rattle.search.specs.Reply as search
 use Rattle.search.specs.Reply.{outcomeNumber, outcomeEnd}
+use Rattle.groups.specs.declared.Grouping.{Grouping}
+use Rattle.groups.specs.declared.Grouping.the-variants.{Grouped, NothingFound, Refused}
+use Rattle.groups.specs.declared.GroupsReply.{GroupsReply}
+use Rattle.groups.specs.Reply.{groupsReply, groupsStarts, groupsBlockers}
 use Rattle.plan.specs.declared.CheckReply.{CheckReply}
 use Rattle.plan.specs.declared.CheckReply.the-variants as check-reply
 use Rattle.plan.specs.CheckStarts.{startsReply}
@@ -29,12 +33,13 @@ use Rattle.columns.specs.Columns.{DemandBuffers, demandReply, routeReply, deman
 use Rattle.host.specs.declared.LightplanRequest.{LightplanRequest}
 use Rattle.host.specs.declared.LightplanRoutes.{LightplanRoutes}
 use Rattle.host.specs.declared.LightplanAnswer.{LightplanAnswer}
+use Rattle.host.specs.declared.LightplanGrouped.{LightplanGrouped}
 use Rattle.host.specs.declared.LightplanVerdict.{LightplanVerdict}
 use Rattle.host.specs.declared.LightplanFrequency.{LightplanFrequency}
 
--- the version of the calls: 1 had five calls and outcomes from 0 on, 2 a search without blockers, 3 demands without rates
+-- the version of the calls: 1 had five calls and outcomes from 0 on, 2 a search without blockers, 3 demands without rates, 4 no groups
 unfoldable pub version : ℕ
-version = 4
+version = 5
 
 -- ---- a request file read
 
@@ -142,6 +147,43 @@ answerEntry (accepted v) limit rooms = searchTold (search.searchReply v limit ro
 unfoldable pub buffersSearched : FileReading → ℕ → search.Buffers → search.Buffers
 buffersSearched (refused why) limit lent = lent
 buffersSearched (accepted v) limit lent = search.buffersAfter v limit lent
+
+-- ---- the demands of a request file in groups
+
+-- a refusal: its number and its place, all else 0
+unfoldable pub groupedRefused : Refusal → LightplanGrouped
+groupedRefused why =
+    record { refusal = numberOf why; place = placeOf why; outcome = 0; end = 0; bound = 0; groups = 0; order = replicate 8 0 }
+
+-- an outcome of M groups with its order, beside the bound: 0 at place 0 and 1, the plan's end, and M for the entries of the order; or 2
+-- where nothing was found; or the refusal
+unfoldable pub outcomeTold : ℕ → ℕ → List ℕ → Grouping → LightplanGrouped
+unfolding groupedRefused
+outcomeTold need M order (Grouped e) = record { refusal = 0; place = 0; outcome = 1; end = e; bound = need; groups = M; order = order }
+outcomeTold need M order NothingFound = record { refusal = 0; place = 0; outcome = 2; end = 0; bound = need; groups = 0; order = order }
+outcomeTold need M order (Refused why) = groupedRefused why
+
+-- the reply for the bound and that of M groups
+unfoldable pub groupedTold : BoundReply → ℕ → GroupsReply → LightplanGrouped
+unfolding groupedRefused outcomeTold
+groupedTold (bound-reply.Bound need) M reply = outcomeTold need M (reply .order) (reply .outcome)
+groupedTold (bound-reply.Refused why) M reply = groupedRefused why
+
+-- the answer for a file, a number of groups, and buffers of these rooms: the reader's refusal, or the reply of the groups
+unfoldable pub groupedEntry : FileReading → ℕ → List ℕ → LightplanGrouped
+unfolding groupedRefused groupedTold
+groupedEntry (refused why) M rooms = groupedRefused why
+groupedEntry (accepted v) M rooms = groupedTold (boundReply v) M (groupsReply v M rooms)
+
+-- the buffer of starts afterwards, beside buffers of these rooms: as the groups leave it, as it was where the file is refused
+unfoldable pub startsGrouped : FileReading → ℕ → List ℕ → List ℕ → List ℕ
+startsGrouped (refused why) M rooms starts = starts
+startsGrouped (accepted v) M rooms starts = groupsStarts v M rooms starts
+
+-- the buffer of blockers, alike
+unfoldable pub blockersGrouped : FileReading → ℕ → List ℕ → List ℕ → List ℕ
+blockersGrouped (refused why) M rooms blockers = blockers
+blockersGrouped (accepted v) M rooms blockers = groupsBlockers v M rooms blockers
 
 -- ---- a plan checked against a request file
 

@@ -4,3 +4,4 @@ pub mod FileTold
 pub mod HostLaws
 pub mod EntryLaws
 pub mod ToldLaws
+pub mod GroupsPlanLaws

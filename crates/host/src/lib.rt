@@ -1,17 +1,19 @@
 // The library's calls for programs in C: files and plans as bytes, answers as structs of numbers. An answer has the refusal 0 and
-// the place 0. A refusal has its number, 1 to 21, and its place; every other field is then 0, but for what was refused, and every
+// the place 0. A refusal has its number, 1 to 21 or 24, and its place; every other field is then 0, but for what was refused, and every
 // lent buffer as it was.
 ghost use mathlib.Core.Path.{_≡_};
 ghost use Rattle.host.specs.Host.{version};
 
 mod checking;
 mod frequency;
+mod grouping;
 mod requests;
 mod searching;
 
 pub use checking::lightplan_check;
 pub use checking::lightplan_check_starts;
 pub use frequency::lightplan_frequency;
+pub use grouping::lightplan_groups;
 pub use requests::lightplan_read;
 pub use requests::lightplan_read_routes;
 pub use searching::lightplan_search;
@@ -53,6 +55,19 @@ pub struct LightplanAnswer {
     pub ruled: u64,
 }
 
+// What groups answer. Outcome 1: a plan, the best of all orders of the groups; 2: none of them gives a plan. A refusal has the outcome 0.
+// The order has as many entries as there are groups; all behind them are 0. Without a plan the end is 0, and the order has no entry.
+#[repr(C)]
+pub struct LightplanGrouped {
+    pub refusal: u8,
+    pub place: usize,
+    pub outcome: u8,
+    pub end: u16,
+    pub bound: u32,
+    pub groups: usize,
+    pub order: [u16; 8],
+}
+
 // What the check of a plan answers: the plan's end, and the bound that no plan ends below. Which 0: accepted; 1: the request file is
 // refused; 2: the plan; 3: the buffer for its starts.
 #[repr(C)]
@@ -75,7 +90,7 @@ pub struct LightplanFrequency {
 }
 
 // Which calls these are and how their answers are laid out.
-const VERSION: u32 = 4;
+const VERSION: u32 = 5;
 
 // The version, which a header must have too to fit this library.
 #[no_mangle]

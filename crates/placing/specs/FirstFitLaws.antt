@@ -13,7 +13,7 @@ use Rattle.theory.specs.Blocker.{blockerIn}
 use Rattle.theory.specs.Arrange.{Arrange}
 use Rattle.theory.specs.Orders.{listing}
 use Rattle.theory.specs.ListingLaws.{listing-length}
-use Rattle.theory.specs.Problem.{Problem, Row, Fitted, placed, refused, startIn}
+use Rattle.theory.specs.Problem.{Problem, Row, Fitted, placed, refused, startIn, top}
 use Rattle.request.specs.declared.Checked.{Checked}
 use Rattle.request.specs.declared.Checked.the-variants as checked
 use Rattle.request.specs.View.{View}
@@ -205,3 +205,29 @@ placed-told-whole (placed-reply.Blocked why b) (placed-reply.Blocked why′ b′
     ap₂ placed-reply.Blocked
     (same-refusal why why′ (ap (λ (t : Told ℕ). t .0) h) (ap (λ (t : Told ℕ). getD (t .1) 0 0) h))
     (ap (λ (t : Told ℕ). getD (t .1) 1 0) h)
+
+-- along an order that lists each demand once, and which it does not refuse, first fit answers and writes what its rows say
+module _ (v : View) (passes : check v ≡ checked.Sound) (order starts blockers : List ℕ) (arranged : Arrange order (listing (v .demandCount)))
+    (rows : List Row) (out : fitted v order ≡ placed rows) (room : v .demandCount ≤ length starts) (blockers-room : v .demandCount ≤ length blockers) where
+  -- the tests of first fit pass
+  tested : checkFirstFit v order (length starts ∷ length blockers ∷ []) ≡ checked.Sound
+  tested = all-pass v passes order arranged (length starts) (length blockers) room blockers-room
+
+  -- it replies with the end of the rows
+  pub order-placed : firstFitReply v order (length starts ∷ length blockers ∷ []) ≡ placed-reply.Placed (top (problemOf v) rows)
+  unfolding fittedReply
+  order-placed = fitted-answers v order (length starts ∷ length blockers ∷ []) tested ∙ ap (fittedReply v) out
+
+  -- and writes their starts
+  pub order-starts : firstFitStarts v order (length starts ∷ length blockers ∷ []) starts ≡ over (startsOf (v .demandCount) rows) starts
+  unfolding fittedStarts
+  order-starts =
+      fitted-writes v order (length starts ∷ length blockers ∷ []) tested starts
+      ∙ ap (λ (o : Fitted). fittedStarts (v .demandCount) o starts) out
+
+  -- and their blockers
+  pub order-blockers :
+      firstFitBlockers v order (length starts ∷ length blockers ∷ []) blockers ≡ over (blockersOf (problemOf v) (v .demandCount) rows) blockers
+  unfolding fittedBlockers
+  order-blockers =
+      fitted-names v order (length starts ∷ length blockers ∷ []) tested blockers ∙ ap (λ (o : Fitted). fittedBlockers v o blockers) out

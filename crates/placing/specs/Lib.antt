@@ -1,7 +1,6 @@
 -- First fit: what it is, what it answers, and what it promises.
 pub mod FirstFit
 pub mod OrderLaws
-pub mod BesideLaws
 pub mod LowestFree
 pub mod LowestFreeLaws
 pub mod PlacementLaws

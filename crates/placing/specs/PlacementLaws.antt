@@ -1,6 +1,6 @@
 -- First fit as it goes on: how it starts, what one demand more does, and how it ends.
 use Prim.Native.Nat.{ℕ, zero, suc, _+_, _≤_, _<_, max}
-use mathlib.Core.List.{List, [], _∷_, _++_, List·Memᴰ, List·Memᴰ·head, List·Memᴰ·tail, List·Memᴰ·not-nil, List·Memᴰ·cases-cons, Memᴰ·append-left, Memᴰ·cast}
+use mathlib.Core.List.{List, [], _∷_, _++_, List·Memᴰ, List·Memᴰ·not-nil, Memᴰ·append-left, Memᴰ·cast}
 use mathlib.Core.Logic.{⊎-elim}
 use mathlib.Core.Path.{_≡_, refl, sym, ap, ap₂, subst, _∙_}
 use native.Mathlib.Omega.{arith}
@@ -20,16 +20,21 @@ use Rattle.theory.specs.Earlier.{NoRepeats}
 use Rattle.theory.specs.TestLaws.{by-test}
 use Rattle.board.specs.declared.Placement.{Placement}
 use Rattle.board.specs.declared.Spot.the-variants.{At, Nowhere}
-use Rattle.board.specs.Board.{entryOf, placedBeside}
+use Rattle.board.specs.Board.{entryOf, placedBeside, placedOne}
 use Rattle.board.specs.BoardLaws.{spot-found, spot-none}
+use Rattle.board.specs.BesideLaws.{board-same, standing-none, standing-more}
+use Rattle.board.specs.inner.Standing.{OnBoard, Standing}
 use Rattle.request.specs.declared.Request.{Request}
 use Rattle.request.specs.View.{View, view, viewDemand, widthOf}
+use Rattle.request.specs.Sound.{SoundRequest}
 use Rattle.placing.specs.declared.PlacedReply.the-variants as placed-reply
 use Rattle.request.specs.Sharing.{problemOf}
+use Rattle.meeting.specs.Row.{meetingRow}
 use Rattle.meeting.specs.AskedLaws.{demand-at}
+use Rattle.meeting.specs.MeetingLaws.{row-entry}
 use Rattle.placing.specs.FirstFit.{fitted, fittedReply, blockerEntry}
 use Rattle.placing.specs.LowestFreeLaws.{fill-row, front-once}
-use Rattle.placing.specs.inner.Placement.{OrderAsked, BesideAsked, Sized, PlaceAsked, PlanKept, HeldBy, Standing, PlacedTo}
+use Rattle.placing.specs.inner.Placement.{OrderAsked, BesideAsked, Sized, PlaceAsked, PlanKept, PlacedTo}
 
 -- what the arrays say of a demand
 pub sized : (q : Request) (i : ℕ) → BesideAsked (view q) i → Sized q i
@@ -66,48 +71,29 @@ placed-none v order at by clean =
       starts-full = clean .starts-full;
       blockers-are = λ j h. rw (fill-nil (problemOf v) []) (clean .blockers-clean j h);
       blockers-full = clean .blockers-full;
-      standing =
-          record {
-            held = λ r m. absurd (List·Memᴰ·not-nil (rw (fill-nil (problemOf v) []) at m));
-            only = λ j h. absurd (omega (arith, clean-slate 200 j, h));
-          };
+      standing = rw (fill-nil (problemOf v) []) (standing-none (problemOf v) (v .demandCount) at (replicate 200 0) (clean-slate 200));
       ends-full = length-replicate {A = ℕ} 200 0;
     }
 
--- a new demand among what stands
-module _ (v : View) (rows : List Row) (at ends : List ℕ) (i s : ℕ) (long : length at ≡ 200) (ends-long : length ends ≡ 200)
-    (position : i < v .demandCount) (small : i < 200) (new : (r : Row) → List·Memᴰ r rows → r .who ≡ i → ⊥) (standing : Standing v rows at ends) where
-  -- it stands, and so do the others
-  standing-more : Standing v (record { who = i; at = s } ∷ rows) (set at i s) (set ends i (s + problemOf v .width i))
-  standing-more =
-      record {
-        held =
-            λ r m.
-            ⊎-elim
-            (λ (e : r ≡ record { who = i; at = s }).
-            subst (HeldBy v (set at i s) (set ends i (s + problemOf v .width i))) (sym e)
-            (record {
-              position = position;
-              starts = getD-set-same at i s 0 (omega (arith, long));
-              ends-at = getD-set-same ends i (s + problemOf v .width i) 0 (omega (arith, ends-long));
-            }))
-            (λ (n : List·Memᴰ r rows).
-            let there = standing .held r n in
-            record {
-              position = there .position;
-              starts = getD-set-other at i (r .who) s 0 (new r n) ∙ there .starts;
-              ends-at = getD-set-other ends i (r .who) (s + problemOf v .width i) 0 (new r n) ∙ there .ends-at;
-            })
-            (List·Memᴰ·cases-cons m);
-        only =
-            λ j h.
-            by-test (eqb i j)
-            (λ t. record { row = record { who = i; at = s }; stands = List·Memᴰ·head refl; number = eqb-true i j t })
-            (λ f.
-            let other : j ≡ i → ⊥ = λ e. eqb-false i j f (sym e) in
-            let found = standing .only j (rw (getD-set-other ends i j (s + problemOf v .width i) 0 other) at h) in
-            record { row = found .row; stands = List·Memᴰ·tail (found .stands); number = found .number });
-      }
+-- a sound request has room on the board
+pub on-board : (v : View) → SoundRequest v → OnBoard (problemOf v) (v .demandCount) (v .band .guard)
+unfolding problemOf
+on-board v sound =
+    record {
+      few = sound .at-most-200-demands;
+      wide = λ j h. sound .demands-sound j h .some-width;
+      gaps = λ i j. refl;
+    }
+
+-- a demand is placed beside the arrays as beside the rows that they hold
+pub beside-rows : (v : View) (rows : List Row) (at ends : List ℕ) (i : ℕ) → SoundRequest v →
+    Standing (problemOf v) (v .demandCount) rows at ends →
+    placedOne (meetingRow (v .demands) i) at ends (v .demandCount) (problemOf v .width i) (v .band .guard) (v .band .slots)
+    ≡ placedBeside (problemOf v) rows i (v .band .slots)
+beside-rows v rows at ends i sound standing =
+    board-same (problemOf v) (v .demandCount) (v .band .guard) rows at ends i (on-board v sound) standing (meetingRow (v .demands) i)
+    (λ j h. row-entry v i j (omega (arith, sound .at-most-200-demands)))
+    (v .band .slots)
 
 module _ (v : View) (order : List ℕ) (k end : ℕ) (at by ends : List ℕ) (h : k < length order) (asked : OrderAsked v order)
     (so-far : PlacedTo v order k end at by ends) where
@@ -228,7 +214,7 @@ module _ (v : View) (order : List ℕ) (k end : ℕ) (at by ends : List ℕ) (h 
           blockers-full = length-set by here entry ∙ so-far .blockers-full;
           standing =
               rw row-is
-              (standing-more v rows at ends here s (so-far .starts-full) (so-far .ends-full) (asked .positions k h) here-small here-new
+              (standing-more P (v .demandCount) rows at ends here s (so-far .starts-full) (so-far .ends-full) (asked .positions k h) here-small here-new
               (so-far .standing));
           ends-full = length-set ends here (s + P .width here) ∙ so-far .ends-full;
         }

@@ -1,9 +1,9 @@
 -- What each refusal means: its number and its place. Every promise that speaks of a refusal speaks through these two.
 use Prim.Native.Nat.{ℕ}
 use Rattle.refusal.specs.declared.Refusal.{Refusal}
-use Rattle.refusal.specs.declared.Refusal.the-variants.{PastEnd, WrongTag, WrongLength, BandOutside, BadLink, TooManyDemands, BadRoute, IdentUsed, BadWidth, BufferShort, TooManyToSearch, NotAnOrder, NoStart, UnknownIdent, IdentSeen, NoRow, EndAbove, Clash, NoBlock, FileTooLong, UnknownRate}
+use Rattle.refusal.specs.declared.Refusal.the-variants.{PastEnd, WrongTag, WrongLength, BandOutside, BadLink, TooManyDemands, BadRoute, IdentUsed, BadWidth, BufferShort, TooManyToSearch, NotAnOrder, NoStart, UnknownIdent, IdentSeen, NoRow, EndAbove, Clash, NoBlock, FileTooLong, UnknownRate, GroupsOutside}
 
--- the number of the fault, 1 to 21
+-- the number of the fault, 1 to 21 and 24
 abbrev pub numberOf : Refusal → ℕ
 numberOf (PastEnd place) = 1
 numberOf (WrongTag place) = 2
@@ -26,6 +26,7 @@ numberOf (Clash place) = 18
 numberOf (NoBlock place) = 19
 numberOf (FileTooLong place) = 20
 numberOf (UnknownRate place) = 21
+numberOf (GroupsOutside place) = 24
 
 -- the place where it was found
 abbrev pub placeOf : Refusal → ℕ
@@ -50,3 +51,4 @@ placeOf (Clash place) = place
 placeOf (NoBlock place) = place
 placeOf (FileTooLong place) = place
 placeOf (UnknownRate place) = place
+placeOf (GroupsOutside place) = place

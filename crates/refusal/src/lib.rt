@@ -47,10 +47,12 @@ pub enum Refusal {
     FileTooLong(usize),
     // 21: a bit rate that is not in the table.
     UnknownRate(usize),
+    // 24: so many groups cannot be made: none, more than 8, or more than there are demands; the place is how many.
+    GroupsOutside(usize),
 }
 
 impl Refusal {
-    // The fault's number, 1 to 21.
+    // The fault's number, 1 to 21 and 24.
     pub fn number(self) -> u8
         ensures { λ r. ⌜ r ≡ numberOf self ⌝ }
     {
@@ -76,6 +78,7 @@ impl Refusal {
             Refusal::NoBlock(_) => 19,
             Refusal::FileTooLong(_) => 20,
             Refusal::UnknownRate(_) => 21,
+            Refusal::GroupsOutside(_) => 24,
         }
     }
 
@@ -105,6 +108,7 @@ impl Refusal {
             Refusal::NoBlock(place) => place,
             Refusal::FileTooLong(place) => place,
             Refusal::UnknownRate(place) => place,
+            Refusal::GroupsOutside(place) => place,
         }
     }
 }

@@ -5,6 +5,7 @@ mod check_request;
 mod check_starts;
 mod first_fit;
 mod frequency;
+mod group_orders;
 mod place_one;
 mod read_plan;
 mod read_request;
@@ -26,6 +27,7 @@ pub(crate) fn make_call(op: u8, body: &[u8]) -> bool {
         0x09 => write_plan::answer(body),
         0x0A => frequency::answer(body),
         0x0B => block::answer(body),
+        0x0C => group_orders::answer(body),
         0x20 => place_one::answer(body),
         _ => false,
     }

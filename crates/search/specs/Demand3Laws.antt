@@ -220,8 +220,8 @@ module _ (v : View) (sound : SoundRequest v) (counted : length (v .demands) ≡ 
         stopped = stopped-used a (f .taken-in) (f .stopped);
         shown = plan-shown a (f .order) e listed (f .shown);
         met-it = subst (λ (l : List (List ℕ)). List·Memᴰ (f .order) l) (sym (lead .stands)) (Memᴰ·append-right (lead .earlier) (List·Memᴰ·head refl));
-        best-met = λ other m. subst (λ (n : ℕ). n ≤ endsAt P [] other) (f .shown .order-ends) (no-lower other m);
-        first = λ other m low. subst (λ (n : ℕ). n < endsAt P [] other) (f .shown .order-ends)
+        best-met = λ other m. subst (λ (n : ℕ). n ≤ endsAt P (fill P []) other) (f .shown .order-ends) (no-lower other m);
+        first = λ other m low. subst (λ (n : ℕ). n < endsAt P (fill P []) other) (f .shown .order-ends)
             (lead .earlier-higher other
             (listed-before (v .demandCount) (lead .earlier) (lead .later ++ f .stopped .remaining) (f .order) other whole-split
             (orders-arrange todo (f .order) listed)
@@ -229,7 +229,7 @@ module _ (v : View) (sound : SoundRequest v) (counted : length (v .demands) ≡ 
         above-bound = f .above-bound;
       }
     where
-      lead : FirstLowest P [] (v .band .slots + 1) (f .taken-in) (f .order)
+      lead : FirstLowest P (fill P []) (v .band .slots + 1) (f .taken-in) (f .order)
       lead = f .lowest-first
 
       whole-split : orders todo ≡ lead .earlier ++ (f .order ∷ (lead .later ++ f .stopped .remaining))
@@ -241,12 +241,12 @@ module _ (v : View) (sound : SoundRequest v) (counted : length (v .demands) ≡ 
       listed : List·Memᴰ (f .order) (orders todo)
       listed = stands-listed (lead .earlier) (lead .later ++ f .stopped .remaining) (f .order) whole-split
 
-      no-lower : (other : List ℕ) → List·Memᴰ other (f .taken-in) → endsAt P [] (f .order) ≤ endsAt P [] other
+      no-lower : (other : List ℕ) → List·Memᴰ other (f .taken-in) → endsAt P (fill P []) (f .order) ≤ endsAt P (fill P []) other
       no-lower other m =
           ⊎-elim
           (λ here. let h = lead .earlier-higher other here in omega arith)
           (λ there. ⊎-elim
-          (λ (same : other ≡ f .order). subst (λ (o : List ℕ). endsAt P [] (f .order) ≤ endsAt P [] o) (sym same) (omega arith))
+          (λ (same : other ≡ f .order). subst (λ (o : List ℕ). endsAt P (fill P []) (f .order) ≤ endsAt P (fill P []) o) (sym same) (omega arith))
           (lead .later-no-lower other)
           (List·Memᴰ·cases-cons there))
           (List·Memᴰ·append-cases (lead .earlier) (subst (λ (l : List (List ℕ)). List·Memᴰ other l) (lead .stands) m))

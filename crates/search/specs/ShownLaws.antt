@@ -1,15 +1,14 @@
 -- The plan that a search shows is the one that the call of first fit gives in the order that it shows.
 use Prim.Native.Nat.{ℕ, _≤_}
-use mathlib.Core.List.{List, [], _∷_, List·Memᴰ}
+use mathlib.Core.List.{List, [], List·Memᴰ}
 use mathlib.Core.Logic.{_⊎_, ⊎-elim}
 use mathlib.Core.Path.{_≡_, sym, ap, subst, _∙_}
 use native.Mathlib.Omega.{arith}
 use lib.ListN.{length, take}
-use Rattle.theory.specs.Problem.{Problem, Row, Fitted, placed, fill, top, startIn}
+use Rattle.theory.specs.Problem.{Problem, Row, placed, fill, top, startIn}
 use Rattle.theory.specs.FillLaws.{fill-planEnd}
 use Rattle.theory.specs.FirstFitLaws.{top-placed}
 use Rattle.theory.specs.AlikeLaws.{planEnd-alike}
-use Rattle.theory.specs.Arrange.{Arrange}
 use Rattle.theory.specs.Orders.{listing}
 use Rattle.theory.specs.ListingLaws.{listing-below, listing-no-repeats}
 use Rattle.request.specs.declared.Request.{Request}
@@ -22,8 +21,8 @@ use Rattle.placing.specs.declared.PlacedReply.the-variants as placed-reply
 use Rattle.request.specs.Sharing.{problemOf}
 use Rattle.meeting.specs.Plan.{startAt, startsOf}
 use Rattle.meeting.specs.PlanEndLaws.{plan-end-is}
-use Rattle.placing.specs.FirstFit.{blockersOf, checkFirstFit, fitted, fittedReply, firstFitReply, fittedStarts, fittedBlockers, firstFitStarts, firstFitBlockers}
-use Rattle.placing.specs.FirstFitLaws.{all-pass, fitted-answers, fitted-writes, fitted-names, blockers-long}
+use Rattle.placing.specs.FirstFit.{blockersOf, fitted}
+use Rattle.placing.specs.FirstFitLaws.{order-placed, order-starts, order-blockers, blockers-long}
 use Rattle.search.specs.declared.Outcome.{Outcome}
 use Rattle.search.specs.declared.Outcome.the-variants.{Finished, Unfinished}
 use Rattle.search.specs.declared.Answer.{Answer}
@@ -33,33 +32,7 @@ use Rattle.search.specs.ReplyLaws.{passed-searchable}
 use Rattle.search.specs.Demand3.{OrderOf, PlanShown, FirstFitShows, Promised, fronts}
 use Rattle.search.specs.Demand3Laws.{answer-given, demand3}
 use Rattle.meeting.specs.MeetingLaws.{start-listed, starts-long}
-use Rattle.lent.specs.Lent.{over}
 use Rattle.lent.specs.LentLaws.{front-written}
-
-module _ (v : View) (passes : check v ≡ Sound) (order starts blockers : List ℕ) (arranged : Arrange order (listing (v .demandCount)))
-    (rows : List Row) (out : fitted v order ≡ placed rows) (room : v .demandCount ≤ length starts) (blockers-room : v .demandCount ≤ length blockers) where
-  -- the tests of first fit pass
-  tested : checkFirstFit v order (length starts ∷ length blockers ∷ []) ≡ Sound
-  tested = all-pass v passes order arranged (length starts) (length blockers) room blockers-room
-
-  -- it replies with the end of the rows
-  order-placed : firstFitReply v order (length starts ∷ length blockers ∷ []) ≡ placed-reply.Placed (top (problemOf v) rows)
-  unfolding fittedReply
-  order-placed = fitted-answers v order (length starts ∷ length blockers ∷ []) tested ∙ ap (fittedReply v) out
-
-  -- and writes their starts
-  order-starts : firstFitStarts v order (length starts ∷ length blockers ∷ []) starts ≡ over (startsOf (v .demandCount) rows) starts
-  unfolding fittedStarts
-  order-starts =
-      fitted-writes v order (length starts ∷ length blockers ∷ []) tested starts
-      ∙ ap (λ (o : Fitted). fittedStarts (v .demandCount) o starts) out
-
-  -- and their blockers
-  pub order-blockers :
-      firstFitBlockers v order (length starts ∷ length blockers ∷ []) blockers ≡ over (blockersOf (problemOf v) (v .demandCount) rows) blockers
-  unfolding fittedBlockers
-  order-blockers =
-      fitted-names v order (length starts ∷ length blockers ∷ []) tested blockers ∙ ap (λ (o : Fitted). fittedBlockers v o blockers) out
 
 -- a plan shown is what first fit gives in its order
 shown-placed : (v : View) → check v ≡ Sound → length (v .demands) ≡ v .demandCount → (e : ℕ) (shown : Buffers) (starts blockers : List ℕ) →

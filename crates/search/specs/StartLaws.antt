@@ -165,7 +165,7 @@ rows-start starts order (suc n) q k h e =
 
 -- an order that took the lead from a start with no plan is one of those tried
 lead-tried : (P : Problem) (tried : List (List ℕ)) (mark end : ℕ) (best : Best) (rows : List Row) (order : List ℕ) →
-    Leads P [] [] tried (record { mark = mark; best = none-met }) (record { mark = end; best = best }) → best ≡ met rows order →
+    Leads P (fill P []) [] tried (record { mark = mark; best = none-met }) (record { mark = end; best = best }) → best ≡ met rows order →
     List·Memᴰ order tried
 unfolding leadBy
 lead-tried P tried mark end best rows order (unbeaten all same) e =

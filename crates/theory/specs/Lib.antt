@@ -28,5 +28,9 @@ pub mod Search
 pub mod SearchLaws
 pub mod SettlesLaws
 pub mod ListingLaws
+pub mod Groups
+pub mod GroupsLaws
+pub mod GroupWalkLaws
+pub mod GroupsAloneLaws
 pub mod AlikeLaws
 pub mod inner

@@ -1,8 +1,8 @@
 -- The listing positions: which numbers they are, that they rise, and how many there are.
 use Prim.Native.Nat.{ℕ, zero, suc, _+_, _≤_, _<_}
-use mathlib.Core.List.{List, [], List·Memᴰ, List·Memᴰ·head, List·Memᴰ·tail, List·Memᴰ·cases-cons, List·Memᴰ·not-nil}
+use mathlib.Core.List.{List, [], _∷_, _++_, List·Memᴰ, List·Memᴰ·head, List·Memᴰ·tail, List·Memᴰ·cases-cons, List·Memᴰ·not-nil}
 use mathlib.Core.Logic.{⊎-elim}
-use mathlib.Core.Path.{_≡_, refl, ap}
+use mathlib.Core.Path.{_≡_, refl, sym, ap, ap₂, _∙_}
 use borrow.Author.Tests.{ltb-true, ltb-false}
 use native.Mathlib.Omega.{arith}
 use lib.ListN.{length}
@@ -46,6 +46,20 @@ pub countUp-rising : (n k : ℕ) → Rising (countUp n k)
 unfolding countUp Rising Chained
 countUp-rising zero k = tt
 countUp-rising (suc n) k = ((λ i m. countUp-from n (suc k) i m), countUp-rising n (suc k))
+
+-- numbers counted up in two parts
+pub countUp-append : (n m k : ℕ) → countUp n k ++ countUp m (k + n) ≡ countUp (n + m) k
+unfolding countUp
+countUp-append zero m k = ap₂ countUp (let e : m ≡ 0 + m = omega arith in e) (let e : k + 0 ≡ k = omega arith in e)
+countUp-append (suc n) m k =
+    ap (λ (l : List ℕ). k ∷ l)
+    (ap (λ (j : ℕ). countUp n (suc k) ++ countUp m j) (let e : k + suc n ≡ suc k + n = omega arith in e) ∙ countUp-append n m (suc k))
+    ∙ ap (λ (j : ℕ). countUp j k) (let e : suc (n + m) ≡ suc n + m = omega arith in e)
+
+-- one number more stands behind the others
+pub countUp-last : (n k : ℕ) → countUp (suc n) k ≡ countUp n k ++ ((k + n) ∷ [])
+unfolding countUp
+countUp-last n k = ap (λ (m : ℕ). countUp m k) (let e : suc n ≡ n + 1 = omega arith in e) ∙ sym (countUp-append n 1 k)
 
 -- there are K listing positions
 pub listing-length : (K : ℕ) → length (listing K) ≡ K

@@ -72,15 +72,15 @@ module _ (P : Problem) (S bound limit : ℕ) (rows : List Row) (todo : List ℕ)
       }
 
   -- if each listed order ends at e or higher, so does every allowed plan
-  none-below : (e : ℕ) → ((o : List ℕ) → List·Memᴰ o (orders todo) → e ≤ endsAt P rows o) → NoneBelow P S rows todo e
+  none-below : (e : ℕ) → ((o : List ℕ) → List·Memᴰ o (orders todo) → e ≤ endsAt P (fill P rows) o) → NoneBelow P S rows todo e
   unfolding NoneBelow endsAt
   none-below e each plan a =
       let (o, listed, by-start, as-low) = some-order-suffices P S rows todo plan (grounds .once) (grounds .wide) a in
       omega (arith, each o (arrange-orders todo o listed), as-low .top-no-higher)
 
   -- an order listed that ends within S is shown as an allowed plan
-  shown-by : (a : Answer) (o : List ℕ) → List·Memᴰ o (orders todo) → a .best ≡ met (fill P rows o) o → endsAt P rows o ≤ S →
-      Shown P S rows todo a o (endsAt P rows o)
+  shown-by : (a : Answer) (o : List ℕ) → List·Memᴰ o (orders todo) → a .best ≡ met (fill P rows o) o → endsAt P (fill P rows) o ≤ S →
+      Shown P S rows todo a o (endsAt P (fill P rows) o)
   unfolding endsAt
   shown-by a o m best-is within =
       let listed : Arrange o todo = orders-arrange todo o m in
@@ -113,7 +113,7 @@ module _ (P : Problem) (S bound limit : ℕ) (rows : List Row) (todo : List ℕ)
 
     -- a walk through all orders without one that ends within S: nothing fits
     all-without : (u : Tally) (w : Walked P limit bound rows [] (orders todo) (fresh (S + 1)) u) → u .course ≡ going →
-        ((o : List ℕ) → List·Memᴰ o (w .eaten) → S + 1 ≤ endsAt P rows o) → u .best ≡ none-met →
+        ((o : List ℕ) → List·Memᴰ o (w .eaten) → S + 1 ≤ endsAt P (fill P rows) o) → u .best ≡ none-met →
         NothingFits P S rows todo (conclude bound u)
     unfolding conclude fresh NoneBelow
     all-without u w on each none =
@@ -128,15 +128,15 @@ module _ (P : Problem) (S bound limit : ℕ) (rows : List Row) (todo : List ℕ)
 
     -- a walk through all orders with one that ends within S: finished with the first of the lowest
     all-with : (u : Tally) (w : Walked P limit bound rows [] (orders todo) (fresh (S + 1)) u) → u .course ≡ going →
-        (o : List ℕ) → FirstLowest P rows (S + 1) (w .eaten) o → leadOf u ≡ leadBy P rows [] o →
-        Finished P S bound rows todo (conclude bound u) (endsAt P rows o)
+        (o : List ℕ) → FirstLowest P (fill P rows) (S + 1) (w .eaten) o → leadOf u ≡ leadBy P (fill P rows) [] o →
+        Finished P S bound rows todo (conclude bound u) (endsAt P (fill P rows) o)
     unfolding conclude fresh leadOf leadBy
     all-with u w on o lowest leads =
         let whole : orders todo ≡ w .eaten = all-taken-in u w on in
         let listed : orders todo ≡ lowest .earlier ++ (o ∷ lowest .later) = whole ∙ lowest .stands in
-        let mark-is : u .mark ≡ endsAt P rows o = ap (λ (l : Lead). l .mark) leads in
-        let least : (x : List ℕ) → List·Memᴰ x (w .eaten) → u .mark ≤ endsAt P rows x
-        = leads-least P rows [] (w .eaten) (leadOf (fresh (S + 1))) (leadOf u)
+        let mark-is : u .mark ≡ endsAt P (fill P rows) o = ap (λ (l : Lead). l .mark) leads in
+        let least : (x : List ℕ) → List·Memᴰ x (w .eaten) → u .mark ≤ endsAt P (fill P rows) x
+        = leads-least P (fill P rows) [] (w .eaten) (leadOf (fresh (S + 1))) (leadOf u)
         (walked-leads P limit bound rows [] (orders todo) (fresh (S + 1)) u w) in
         record {
           order = o;
@@ -152,7 +152,7 @@ module _ (P : Problem) (S bound limit : ℕ) (rows : List Row) (todo : List ℕ)
               (omega (arith, lowest .below-mark));
           none-lower =
               none-below
-              (endsAt P rows o)
+              (endsAt P (fill P rows) o)
               (λ (x : List ℕ) m. omega (arith, mark-is, least x (subst (List·Memᴰ x) whole m)));
           first = lowest .earlier-higher;
           sum-at-bound = λ q. absurd (unmet-at-end u w (λ e. going-not-at-bound (sym on ∙ e)) (mark-is ∙ q));
@@ -161,28 +161,28 @@ module _ (P : Problem) (S bound limit : ℕ) (rows : List Row) (todo : List ℕ)
 
     -- a walk that met the bound has the order that meets it in the lead
     bound-leads : (u : Tally) (w : Walked P limit bound rows [] (orders todo) (fresh (S + 1)) u)
-        (b : EndsAtBound P bound rows [] (w .eaten) (leadOf (fresh (S + 1)))) → leadOf u ≡ leadBy P rows [] (b .order)
+        (b : EndsAtBound P bound rows [] (w .eaten) (leadOf (fresh (S + 1)))) → leadOf u ≡ leadBy P (fill P rows) [] (b .order)
     unfolding try
     bound-leads u w b =
         let start : Lead = leadOf (fresh (S + 1)) in
         w .led
-        ∙ ap (λ (tried : List (List ℕ)). try P rows [] tried start) (b .stands)
-        ∙ try-append P rows [] (b .earlier) (b .order ∷ []) start
-        ∙ try-better P rows [] (b .order) [] (try P rows [] (b .earlier) start) (omega (arith, b .meets, b .beaten))
+        ∙ ap (λ (tried : List (List ℕ)). try P (fill P rows) [] tried start) (b .stands)
+        ∙ try-append P (fill P rows) [] (b .earlier) (b .order ∷ []) start
+        ∙ try-better P (fill P rows) [] (b .order) [] (try P (fill P rows) [] (b .earlier) start) (omega (arith, b .meets, b .beaten))
 
     -- a walk that met the bound: finished with the first order that meets it
     bound-with : (u : Tally) (w : Walked P limit bound rows [] (orders todo) (fresh (S + 1)) u)
         (b : EndsAtBound P bound rows [] (w .eaten) (leadOf (fresh (S + 1)))) →
-        Finished P S bound rows todo (conclude bound u) (endsAt P rows (b .order))
+        Finished P S bound rows todo (conclude bound u) (endsAt P (fill P rows) (b .order))
     unfolding conclude fresh leadOf leadBy NoneBelow
     bound-with u w b =
         let start : Lead = leadOf (fresh (S + 1)) in
         let o : List ℕ = b .order in
         let listed : orders todo ≡ b .earlier ++ (o ∷ w .remaining)
         = w .split ∙ ap (λ (l : List (List ℕ)). l ++ w .remaining) (b .stands) ∙ append-assoc (b .earlier) (o ∷ []) (w .remaining) in
-        let before : Leads P rows [] (b .earlier) start (try P rows [] (b .earlier) start) = try-leads P rows [] (b .earlier) start in
-        let fallen = leads-mark P rows [] (b .earlier) start (try P rows [] (b .earlier) start) before in
-        let least = leads-least P rows [] (b .earlier) start (try P rows [] (b .earlier) start) before in
+        let before : Leads P (fill P rows) [] (b .earlier) start (try P (fill P rows) [] (b .earlier) start) = try-leads P (fill P rows) [] (b .earlier) start in
+        let fallen = leads-mark P (fill P rows) [] (b .earlier) start (try P (fill P rows) [] (b .earlier) start) before in
+        let least = leads-least P (fill P rows) [] (b .earlier) start (try P (fill P rows) [] (b .earlier) start) before in
         record {
           order = o;
           earlier = b .earlier;
@@ -224,7 +224,7 @@ module _ (P : Problem) (S bound limit : ℕ) (rows : List Row) (todo : List ℕ)
 
     -- a walk that ran out of steps before it met an order that ends within S
     out-without : (u : Tally) (w : Walked P limit bound rows [] (orders todo) (fresh (S + 1)) u) → u .course ≡ out-of-steps →
-        ((o : List ℕ) → List·Memᴰ o (w .eaten) → S + 1 ≤ endsAt P rows o) → u .best ≡ none-met →
+        ((o : List ℕ) → List·Memᴰ o (w .eaten) → S + 1 ≤ endsAt P (fill P rows) o) → u .best ≡ none-met →
         UnfinishedEmpty P S limit rows todo (conclude bound u)
     unfolding conclude
     out-without u w out each none =
@@ -237,15 +237,15 @@ module _ (P : Problem) (S bound limit : ℕ) (rows : List Row) (todo : List ℕ)
 
     -- a walk that ran out of steps after it met one
     out-with : (u : Tally) (w : Walked P limit bound rows [] (orders todo) (fresh (S + 1)) u) → u .course ≡ out-of-steps →
-        (o : List ℕ) → FirstLowest P rows (S + 1) (w .eaten) o → leadOf u ≡ leadBy P rows [] o →
-        Unfinished P S bound limit rows todo (conclude bound u) (endsAt P rows o)
+        (o : List ℕ) → FirstLowest P (fill P rows) (S + 1) (w .eaten) o → leadOf u ≡ leadBy P (fill P rows) [] o →
+        Unfinished P S bound limit rows todo (conclude bound u) (endsAt P (fill P rows) o)
     unfolding conclude leadOf leadBy NoneBelow
     out-with u w out o lowest leads =
         let listed : orders todo ≡ lowest .earlier ++ (o ∷ (lowest .later ++ w .remaining))
         = w .split
         ∙ ap (λ (l : List (List ℕ)). l ++ w .remaining) (lowest .stands)
         ∙ append-assoc (lowest .earlier) (o ∷ lowest .later) (w .remaining) in
-        let shown : Shown P S rows todo (conclude bound u) o (endsAt P rows o)
+        let shown : Shown P S rows todo (conclude bound u) o (endsAt P (fill P rows) o)
         = shown-by
         (conclude bound u)
         o
@@ -270,7 +270,7 @@ module _ (P : Problem) (S bound limit : ℕ) (rows : List Row) (todo : List ℕ)
 
     -- what a walk's end promises where the lead stayed at its start: there is no plan
     promise-without : (u : Tally) (w : Walked P limit bound rows [] (orders todo) (fresh (S + 1)) u) →
-        ((o : List ℕ) → List·Memᴰ o (w .eaten) → S + 1 ≤ endsAt P rows o) → leadOf u ≡ leadOf (fresh (S + 1)) →
+        ((o : List ℕ) → List·Memᴰ o (w .eaten) → S + 1 ≤ endsAt P (fill P rows) o) → leadOf u ≡ leadOf (fresh (S + 1)) →
         (u .course ≡ going) ⊎ (u .course ≡ out-of-steps) →
         Promise P S bound limit rows todo (conclude bound u) (conclude bound u .outcome)
     unfolding Promise fresh leadOf outcomeOf
@@ -289,7 +289,7 @@ module _ (P : Problem) (S bound limit : ℕ) (rows : List Row) (todo : List ℕ)
 
     -- what a walk's end promises where an order has the lead
     promise-with : (u : Tally) (w : Walked P limit bound rows [] (orders todo) (fresh (S + 1)) u) → (o : List ℕ) →
-        FirstLowest P rows (S + 1) (w .eaten) o → leadOf u ≡ leadBy P rows [] o → (u .course ≡ going) ⊎ (u .course ≡ out-of-steps) →
+        FirstLowest P (fill P rows) (S + 1) (w .eaten) o → leadOf u ≡ leadBy P (fill P rows) [] o → (u .course ≡ going) ⊎ (u .course ≡ out-of-steps) →
         Promise P S bound limit rows todo (conclude bound u) (conclude bound u .outcome)
     unfolding Promise leadOf leadBy outcomeOf
     promise-with u w o lowest leads (inl on) =
@@ -300,7 +300,7 @@ module _ (P : Problem) (S bound limit : ℕ) (rows : List Row) (todo : List ℕ)
         u
         going
         (met (fill P rows o) o)
-        (endsAt P rows o)
+        (endsAt P (fill P rows) o)
         on
         (ap (λ (l : Lead). l .best) leads)
         (ap (λ (l : Lead). l .mark) leads)))
@@ -313,7 +313,7 @@ module _ (P : Problem) (S bound limit : ℕ) (rows : List Row) (todo : List ℕ)
         u
         out-of-steps
         (met (fill P rows o) o)
-        (endsAt P rows o)
+        (endsAt P (fill P rows) o)
         out
         (ap (λ (l : Lead). l .best) leads)
         (ap (λ (l : Lead). l .mark) leads)))
@@ -321,7 +321,7 @@ module _ (P : Problem) (S bound limit : ℕ) (rows : List Row) (todo : List ℕ)
 
     -- what a walk's end promises where it did not meet the bound
     promise-unmet : (u : Tally) (w : Walked P limit bound rows [] (orders todo) (fresh (S + 1)) u) →
-        Leads P rows [] (w .eaten) (leadOf (fresh (S + 1))) (leadOf u) → (u .course ≡ going) ⊎ (u .course ≡ out-of-steps) →
+        Leads P (fill P rows) [] (w .eaten) (leadOf (fresh (S + 1))) (leadOf u) → (u .course ≡ going) ⊎ (u .course ≡ out-of-steps) →
         Promise P S bound limit rows todo (conclude bound u) (conclude bound u .outcome)
     unfolding fresh leadOf
     promise-unmet u w (unbeaten each same) course-is = promise-without u w each same course-is
@@ -333,7 +333,7 @@ module _ (P : Problem) (S bound limit : ℕ) (rows : List Row) (todo : List ℕ)
     unfolding Promise leadOf leadBy outcomeOf
     promise-met u w met-it =
         let b = w .when-at-bound met-it in
-        let leads : leadOf u ≡ leadBy P rows [] (b .order) = bound-leads u w b in
+        let leads : leadOf u ≡ leadBy P (fill P rows) [] (b .order) = bound-leads u w b in
         subst
         (Promise P S bound limit rows todo (conclude bound u))
         (sym
@@ -341,7 +341,7 @@ module _ (P : Problem) (S bound limit : ℕ) (rows : List Row) (todo : List ℕ)
         u
         at-bound
         (met (fill P rows (b .order)) (b .order))
-        (endsAt P rows (b .order))
+        (endsAt P (fill P rows) (b .order))
         met-it
         (ap (λ (l : Lead). l .best) leads)
         (ap (λ (l : Lead). l .mark) leads)))
@@ -435,7 +435,7 @@ search-finished P S bound limit rows todo e grounds h =
 
 -- finished: every order that is earlier by listing position than the one shown ends higher
 pub finished-earliest : (P : Problem) (S bound : ℕ) (rows : List Row) (todo : List ℕ) (a : Answer) (e : ℕ) → NoRepeats todo →
-    (f : Finished P S bound rows todo a e) → (o : List ℕ) → Arrange o todo → Earlier todo o (f .order) → e < endsAt P rows o
+    (f : Finished P S bound rows todo a e) → (o : List ℕ) → Arrange o todo → Earlier todo o (f .order) → e < endsAt P (fill P rows) o
 finished-earliest P S bound rows todo a e once f o listed h =
     f .first o (earlier-listed-before todo once (f .earlier) (f .later) (f .order) o (f .listed) listed h)
 

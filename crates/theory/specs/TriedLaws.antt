@@ -23,56 +23,56 @@ equal-or-not a b = by-test (eqb a b) (λ e. inl (eqb-true a b e)) (λ e. inr (eq
 
 module _ (P : Problem) where
   -- no order ends below the rows that stand
-  pub ends-above-rows : (rows : List Row) (order : List ℕ) → top P rows ≤ endsAt P rows order
+  pub ends-above-rows : (rows : List Row) (order : List ℕ) → top P rows ≤ endsAt P (fill P rows) order
   unfolding endsAt
   ends-above-rows rows order = top-fill P rows order
 
   -- an order below the mark takes the lead
-  pub try-better : (rows : List Row) (path o : List ℕ) (os : List (List ℕ)) (l : Lead) → endsAt P rows o < l .mark →
-      try P rows path (o ∷ os) l ≡ try P rows path os (leadBy P rows path o)
+  pub try-better : (reach : List ℕ → List Row) (path o : List ℕ) (os : List (List ℕ)) (l : Lead) → endsAt P reach o < l .mark →
+      try P reach path (o ∷ os) l ≡ try P reach path os (leadBy P reach path o)
   unfolding try
-  try-better rows path o os l h =
-      ap (λ (b : Bool). try P rows path os (cond b (leadBy P rows path o) l)) (lt-ltb (endsAt P rows o) (l .mark) h)
+  try-better reach path o os l h =
+      ap (λ (b : Bool). try P reach path os (cond b (leadBy P reach path o) l)) (lt-ltb (endsAt P reach o) (l .mark) h)
 
   -- an order not below the mark changes nothing
-  pub try-equalled : (rows : List Row) (path o : List ℕ) (os : List (List ℕ)) (l : Lead) → l .mark ≤ endsAt P rows o →
-      try P rows path (o ∷ os) l ≡ try P rows path os l
+  pub try-equalled : (reach : List ℕ → List Row) (path o : List ℕ) (os : List (List ℕ)) (l : Lead) → l .mark ≤ endsAt P reach o →
+      try P reach path (o ∷ os) l ≡ try P reach path os l
   unfolding try
-  try-equalled rows path o os l h =
-      ap (λ (b : Bool). try P rows path os (cond b (leadBy P rows path o) l)) (le-ltb (endsAt P rows o) (l .mark) h)
+  try-equalled reach path o os l h =
+      ap (λ (b : Bool). try P reach path os (cond b (leadBy P reach path o) l)) (le-ltb (endsAt P reach o) (l .mark) h)
 
   -- trying two lists of orders is trying the one, then the other
-  pub try-append : (rows : List Row) (path : List ℕ) (xs ys : List (List ℕ)) (l : Lead) →
-      try P rows path (xs ++ ys) l ≡ try P rows path ys (try P rows path xs l)
+  pub try-append : (reach : List ℕ → List Row) (path : List ℕ) (xs ys : List (List ℕ)) (l : Lead) →
+      try P reach path (xs ++ ys) l ≡ try P reach path ys (try P reach path xs l)
   unfolding try
-  try-append rows path [] ys l = refl
-  try-append rows path (o ∷ xs) ys l =
-      try-append rows path xs ys (cond (ltb (endsAt P rows o) (l .mark)) (leadBy P rows path o) l)
+  try-append reach path [] ys l = refl
+  try-append reach path (o ∷ xs) ys l =
+      try-append reach path xs ys (cond (ltb (endsAt P reach o) (l .mark)) (leadBy P reach path o) l)
 
   -- trying orders that begin with i is trying what follows, with i placed
   pub try-map : (rows : List Row) (path : List ℕ) (i : ℕ) (os : List (List ℕ)) (l : Lead) →
-      try P rows path (map (λ (o : List ℕ). i ∷ o) os) l ≡ try P (place P rows i) (path ++ (i ∷ [])) os l
+      try P (fill P rows) path (map (λ (o : List ℕ). i ∷ o) os) l ≡ try P (fill P (place P rows i)) (path ++ (i ∷ [])) os l
   unfolding try endsAt leadBy fill
   try-map rows path i [] l = refl
   try-map rows path i (o ∷ os) l =
-      try-map rows path i os (cond (ltb (endsAt P rows (i ∷ o)) (l .mark)) (leadBy P rows path (i ∷ o)) l)
+      try-map rows path i os (cond (ltb (endsAt P (fill P rows) (i ∷ o)) (l .mark)) (leadBy P (fill P rows) path (i ∷ o)) l)
       ∙ ap
       (λ (order : List ℕ).
-      try P (place P rows i) (path ++ (i ∷ [])) os
+      try P (fill P (place P rows i)) (path ++ (i ∷ [])) os
       (cond
-      (ltb (endsAt P (place P rows i) o) (l .mark))
-      (record { mark = endsAt P (place P rows i) o; best = met (fill P (place P rows i) o) order })
+      (ltb (endsAt P (fill P (place P rows i)) o) (l .mark))
+      (record { mark = endsAt P (fill P (place P rows i)) o; best = met (fill P (place P rows i) o) order })
       l))
       (sym (append-assoc path (i ∷ []) o))
 
   -- orders none of which ends below the mark change nothing
-  pub try-none : (rows : List Row) (path : List ℕ) (os : List (List ℕ)) (l : Lead) →
-      ((o : List ℕ) → List·Memᴰ o os → l .mark ≤ endsAt P rows o) → try P rows path os l ≡ l
+  pub try-none : (reach : List ℕ → List Row) (path : List ℕ) (os : List (List ℕ)) (l : Lead) →
+      ((o : List ℕ) → List·Memᴰ o os → l .mark ≤ endsAt P reach o) → try P reach path os l ≡ l
   unfolding try
-  try-none rows path [] l h = refl
-  try-none rows path (o ∷ os) l h =
-      try-equalled rows path o os l (h o (List·Memᴰ·head refl))
-      ∙ try-none rows path os l (λ (x : List ℕ) m. h x (List·Memᴰ·tail m))
+  try-none reach path [] l h = refl
+  try-none reach path (o ∷ os) l h =
+      try-equalled reach path o os l (h o (List·Memᴰ·head refl))
+      ∙ try-none reach path os l (λ (x : List ℕ) m. h x (List·Memᴰ·tail m))
 
   -- what holds of the head and of each in the tail holds of each
   each-cons : (Q : List ℕ → Type 0) (o : List ℕ) (os : List (List ℕ)) → Q o → ((x : List ℕ) → List·Memᴰ x os → Q x) →
@@ -84,10 +84,10 @@ module _ (P : Problem) where
       (List·Memᴰ·cases-cons m)
 
   -- the lead after an order below the mark and then others
-  better-first : (rows : List Row) (path o : List ℕ) (os : List (List ℕ)) (l after : Lead) → endsAt P rows o < l .mark →
-      Leads P rows path os (leadBy P rows path o) after → Leads P rows path (o ∷ os) l after
+  better-first : (reach : List ℕ → List Row) (path o : List ℕ) (os : List (List ℕ)) (l after : Lead) → endsAt P reach o < l .mark →
+      Leads P reach path os (leadBy P reach path o) after → Leads P reach path (o ∷ os) l after
   unfolding leadBy
-  better-first rows path o os l after below (unbeaten none-lower same) =
+  better-first reach path o os l after below (unbeaten none-lower same) =
       taken
       o
       (record {
@@ -99,7 +99,7 @@ module _ (P : Problem) where
         later-no-lower = none-lower;
       })
       same
-  better-first rows path o os l after below (taken x lowest same) =
+  better-first reach path o os l after below (taken x lowest same) =
       taken
       x
       (record {
@@ -109,7 +109,7 @@ module _ (P : Problem) where
         below-mark = omega (arith, lowest .below-mark);
         earlier-higher =
             each-cons
-            (λ (y : List ℕ). endsAt P rows x < endsAt P rows y)
+            (λ (y : List ℕ). endsAt P reach x < endsAt P reach y)
             o
             (lowest .earlier)
             (lowest .below-mark)
@@ -119,11 +119,11 @@ module _ (P : Problem) where
       same
 
   -- the lead after an order not below the mark and then others
-  equalled-first : (rows : List Row) (path o : List ℕ) (os : List (List ℕ)) (l after : Lead) → l .mark ≤ endsAt P rows o →
-      Leads P rows path os l after → Leads P rows path (o ∷ os) l after
-  equalled-first rows path o os l after not-below (unbeaten none-lower same) =
-      unbeaten (each-cons (λ (y : List ℕ). l .mark ≤ endsAt P rows y) o os not-below none-lower) same
-  equalled-first rows path o os l after not-below (taken x lowest same) =
+  equalled-first : (reach : List ℕ → List Row) (path o : List ℕ) (os : List (List ℕ)) (l after : Lead) → l .mark ≤ endsAt P reach o →
+      Leads P reach path os l after → Leads P reach path (o ∷ os) l after
+  equalled-first reach path o os l after not-below (unbeaten none-lower same) =
+      unbeaten (each-cons (λ (y : List ℕ). l .mark ≤ endsAt P reach y) o os not-below none-lower) same
+  equalled-first reach path o os l after not-below (taken x lowest same) =
       taken
       x
       (record {
@@ -133,7 +133,7 @@ module _ (P : Problem) where
         below-mark = lowest .below-mark;
         earlier-higher =
             each-cons
-            (λ (y : List ℕ). endsAt P rows x < endsAt P rows y)
+            (λ (y : List ℕ). endsAt P reach x < endsAt P reach y)
             o
             (lowest .earlier)
             (omega (arith, lowest .below-mark))
@@ -143,45 +143,45 @@ module _ (P : Problem) where
       same
 
   -- after a list of orders the lead is as it was, and none of them ends below the mark; or it is that of the first of the lowest
-  pub try-leads : (rows : List Row) (path : List ℕ) (os : List (List ℕ)) (l : Lead) →
-      Leads P rows path os l (try P rows path os l)
+  pub try-leads : (reach : List ℕ → List Row) (path : List ℕ) (os : List (List ℕ)) (l : Lead) →
+      Leads P reach path os l (try P reach path os l)
   unfolding try
-  try-leads rows path [] l = unbeaten (λ (o : List ℕ) m. absurd (List·Memᴰ·not-nil m)) refl
-  try-leads rows path (o ∷ os) l =
+  try-leads reach path [] l = unbeaten (λ (o : List ℕ) m. absurd (List·Memᴰ·not-nil m)) refl
+  try-leads reach path (o ∷ os) l =
       ⊎-elim
-      (λ (below : endsAt P rows o < l .mark).
+      (λ (below : endsAt P reach o < l .mark).
       subst
-      (Leads P rows path (o ∷ os) l)
-      (sym (try-better rows path o os l below))
-      (better-first rows path o os l (try P rows path os (leadBy P rows path o)) below (try-leads rows path os (leadBy P rows path o))))
-      (λ (not-below : l .mark ≤ endsAt P rows o).
+      (Leads P reach path (o ∷ os) l)
+      (sym (try-better reach path o os l below))
+      (better-first reach path o os l (try P reach path os (leadBy P reach path o)) below (try-leads reach path os (leadBy P reach path o))))
+      (λ (not-below : l .mark ≤ endsAt P reach o).
       subst
-      (Leads P rows path (o ∷ os) l)
-      (sym (try-equalled rows path o os l not-below))
-      (equalled-first rows path o os l (try P rows path os l) not-below (try-leads rows path os l)))
-      (below-or-not (endsAt P rows o) (l .mark))
+      (Leads P reach path (o ∷ os) l)
+      (sym (try-equalled reach path o os l not-below))
+      (equalled-first reach path o os l (try P reach path os l) not-below (try-leads reach path os l)))
+      (below-or-not (endsAt P reach o) (l .mark))
 
   -- the mark only falls
-  pub leads-mark : (rows : List Row) (path : List ℕ) (os : List (List ℕ)) (l after : Lead) →
-      Leads P rows path os l after → after .mark ≤ l .mark
+  pub leads-mark : (reach : List ℕ → List Row) (path : List ℕ) (os : List (List ℕ)) (l after : Lead) →
+      Leads P reach path os l after → after .mark ≤ l .mark
   unfolding leadBy
-  leads-mark rows path os l after (unbeaten none-lower same) = omega (arith, ap (λ (k : Lead). k .mark) same)
-  leads-mark rows path os l after (taken o lowest same) =
+  leads-mark reach path os l after (unbeaten none-lower same) = omega (arith, ap (λ (k : Lead). k .mark) same)
+  leads-mark reach path os l after (taken o lowest same) =
       omega (arith, lowest .below-mark, ap (λ (k : Lead). k .mark) same)
 
   -- no order tried ends below the mark that they leave
-  pub leads-least : (rows : List Row) (path : List ℕ) (os : List (List ℕ)) (l after : Lead) →
-      Leads P rows path os l after → (o : List ℕ) → List·Memᴰ o os → after .mark ≤ endsAt P rows o
+  pub leads-least : (reach : List ℕ → List Row) (path : List ℕ) (os : List (List ℕ)) (l after : Lead) →
+      Leads P reach path os l after → (o : List ℕ) → List·Memᴰ o os → after .mark ≤ endsAt P reach o
   unfolding leadBy
-  leads-least rows path os l after (unbeaten none-lower same) o m =
+  leads-least reach path os l after (unbeaten none-lower same) o m =
       omega (arith, ap (λ (k : Lead). k .mark) same, none-lower o m)
-  leads-least rows path os l after (taken x lowest same) o m =
-      let mark-is : after .mark ≡ endsAt P rows x = ap (λ (k : Lead). k .mark) same in
+  leads-least reach path os l after (taken x lowest same) o m =
+      let mark-is : after .mark ≡ endsAt P reach x = ap (λ (k : Lead). k .mark) same in
       ⊎-elim
       (λ (e : List·Memᴰ o (lowest .earlier)). omega (arith, lowest .earlier-higher o e))
       (λ (e : List·Memᴰ o (x ∷ lowest .later)).
       ⊎-elim
-      (λ (q : o ≡ x). omega (arith, ap (endsAt P rows) q))
+      (λ (q : o ≡ x). omega (arith, ap (endsAt P reach) q))
       (λ (q : List·Memᴰ o (lowest .later)). omega (arith, lowest .later-no-lower o q))
       (List·Memᴰ·cases-cons e))
       (List·Memᴰ·append-cases (lowest .earlier) (subst (List·Memᴰ o) (lowest .stands) m))

@@ -91,8 +91,8 @@ module _ (P : Problem) (limit bound : ℕ) where
       Walked P limit bound rows path (xs ++ ys) t v
   walked-then rows path xs ys t u v a on b =
       let whole : xs ≡ a .eaten = a .split ∙ ap (λ (r : List (List ℕ)). a .eaten ++ r) (a .when-going on) ∙ append-nil (a .eaten) in
-      let led-both : try P rows path (b .eaten) (leadOf u) ≡ try P rows path (a .eaten ++ b .eaten) (leadOf t)
-      = ap (try P rows path (b .eaten)) (a .led) ∙ sym (try-append P rows path (a .eaten) (b .eaten) (leadOf t)) in
+      let led-both : try P (fill P rows) path (b .eaten) (leadOf u) ≡ try P (fill P rows) path (a .eaten ++ b .eaten) (leadOf t)
+      = ap (try P (fill P rows) path (b .eaten)) (a .led) ∙ sym (try-append P (fill P rows) path (a .eaten) (b .eaten) (leadOf t)) in
       record {
         eaten = a .eaten ++ b .eaten;
         remaining = b .remaining;
@@ -113,7 +113,7 @@ module _ (P : Problem) (limit bound : ℕ) where
               meets = z .meets;
               beaten = subst
                   (λ (l : Lead). bound < l .mark)
-                  (ap (try P rows path (z .earlier)) (a .led) ∙ sym (try-append P rows path (a .eaten) (z .earlier) (leadOf t)))
+                  (ap (try P (fill P rows) path (z .earlier)) (a .led) ∙ sym (try-append P (fill P rows) path (a .eaten) (z .earlier) (leadOf t)))
                   (z .beaten);
             };
         when-out = b .when-out;
@@ -144,7 +144,7 @@ module _ (P : Problem) (limit bound : ℕ) where
 
   -- one order taken in without a step
   walked-one : (rows : List Row) (path : List ℕ) (t u : Tally) → u .reached + u .ruled ≡ t .reached + t .ruled + 1 →
-      leadOf u ≡ try P rows path ([] ∷ []) (leadOf t) → u .steps ≡ t .steps → (u .course ≡ out-of-steps → ⊥) →
+      leadOf u ≡ try P (fill P rows) path ([] ∷ []) (leadOf t) → u .steps ≡ t .steps → (u .course ≡ out-of-steps → ⊥) →
       (u .course ≡ at-bound → (top P rows ≡ bound) × (bound < t .mark)) →
       ((u .course ≡ at-bound → ⊥) → t .mark ≢ bound → u .mark ≢ bound) → Walked P limit bound rows path ([] ∷ []) t u
   unfolding try leadOf endsAt fill
@@ -166,12 +166,12 @@ module _ (P : Problem) (limit bound : ℕ) where
 
   -- the lead of a complete order is that of nothing more placed
   lead-here : (rows : List Row) (path : List ℕ) (t u : Tally) → leadOf u ≡ record { mark = top P rows; best = met rows path } →
-      top P rows < t .mark → leadOf u ≡ try P rows path ([] ∷ []) (leadOf t)
+      top P rows < t .mark → leadOf u ≡ try P (fill P rows) path ([] ∷ []) (leadOf t)
   unfolding try leadOf leadBy endsAt fill
   lead-here rows path t u e below =
       e
       ∙ ap (λ (order : List ℕ). record { mark = top P rows; best = met rows order }) (sym (append-nil path))
-      ∙ sym (try-better P rows path [] [] (leadOf t) below)
+      ∙ sym (try-better P (fill P rows) path [] [] (leadOf t) below)
 
   -- a complete order that meets the bound below the mark
   walked-at-bound : (rows : List Row) (path : List ℕ) (t : Tally) → top P rows < t .mark → top P rows ≡ bound →
@@ -221,7 +221,7 @@ module _ (P : Problem) (limit bound : ℕ) where
       t
       (equalled t)
       (omega arith)
-      (sym (try-equalled P rows path [] [] (leadOf t) not-below))
+      (sym (try-equalled P (fill P rows) path [] [] (leadOf t) not-below))
       refl
       (λ out. going-not-out (sym on ∙ out))
       (λ q. absurd (going-not-at-bound (sym on ∙ q)))
@@ -255,7 +255,7 @@ module _ (P : Problem) (limit bound : ℕ) where
         split = sym (append-nil (ordersOf n left));
         counted = omega (arith, ordersOf-length n left sized);
         led = sym
-            (try-none P rows path (ordersOf n left) (leadOf t) (λ (o : List ℕ) m. omega (arith, ends-above-rows P rows o)));
+            (try-none P (fill P rows) path (ordersOf n left) (leadOf t) (λ (o : List ℕ) m. omega (arith, ends-above-rows P rows o)));
         steps-rise = omega arith;
         steps-held = omega arith;
         when-going = λ e. refl;
@@ -437,16 +437,16 @@ module _ (P : Problem) (limit bound : ℕ) where
 
   -- what a walk makes of the lead: it stays, or the first of the lowest among the orders taken in has it
   pub walked-leads : (rows : List Row) (path : List ℕ) (os : List (List ℕ)) (t u : Tally) →
-      (w : Walked P limit bound rows path os t u) → Leads P rows path (w .eaten) (leadOf t) (leadOf u)
+      (w : Walked P limit bound rows path os t u) → Leads P (fill P rows) path (w .eaten) (leadOf t) (leadOf u)
   walked-leads rows path os t u w =
-      subst (Leads P rows path (w .eaten) (leadOf t)) (sym (w .led)) (try-leads P rows path (w .eaten) (leadOf t))
+      subst (Leads P (fill P rows) path (w .eaten) (leadOf t)) (sym (w .led)) (try-leads P (fill P rows) path (w .eaten) (leadOf t))
 
   -- a walk never raises the mark
   pub walked-mark : (rows : List Row) (path : List ℕ) (os : List (List ℕ)) (t u : Tally) → Walked P limit bound rows path os t u →
       u .mark ≤ t .mark
   unfolding leadOf
   walked-mark rows path os t u w =
-      leads-mark P rows path (w .eaten) (leadOf t) (leadOf u) (walked-leads rows path os t u w)
+      leads-mark P (fill P rows) path (w .eaten) (leadOf t) (leadOf u) (walked-leads rows path os t u w)
 
   -- a walk over a list of orders counts no more than that list has
   pub walked-counts : (rows : List Row) (path : List ℕ) (os : List (List ℕ)) (t u : Tally) → Walked P limit bound rows path os t u →

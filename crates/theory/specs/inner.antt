@@ -5,3 +5,4 @@ pub mod Tried
 pub mod Promises
 pub mod AsLow
 pub mod Clashes
+pub mod Grouped

@@ -2,6 +2,7 @@
 
 use super::cases::Cases;
 use super::shapes::*;
+use crate::orders::orders;
 use crate::request::{Band, Demand, Request};
 
 const MOST: u64 = u32::MAX as u64;
@@ -55,18 +56,6 @@ fn placed_later(cases: &mut Cases) {
             cases.place(4, &order, &both_sides(guard, widths));
         }
     }
-}
-
-/// All orders, in listing order.
-fn orders(count: usize) -> Vec<Vec<usize>> {
-    let mut all = vec![vec![]];
-    for _ in 0..count {
-        let longer = |order: &Vec<usize>| -> Vec<Vec<usize>> {
-            (0..count).filter(|entry| !order.contains(entry)).map(|entry| [&order[..], &[entry]].concat()).collect()
-        };
-        all = all.iter().flat_map(longer).collect();
-    }
-    all
 }
 
 /// S - w is 0 then, and somebody stands there all the same.

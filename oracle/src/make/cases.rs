@@ -40,6 +40,15 @@ impl Cases {
         self.calls.push(Call::Search { limit, rooms, request: request.clone() });
     }
 
+    /// Groups with as much room as there are demands.
+    pub fn groups(&mut self, count: usize, request: &Request) {
+        self.groups_in([request.demand_count.min(200); 2], count, request);
+    }
+
+    pub fn groups_in(&mut self, rooms: [usize; 2], count: usize, request: &Request) {
+        self.calls.push(Call::Groups { rooms, count, request: request.clone() });
+    }
+
     pub fn check(&mut self, starts: &[i64], request: &Request) {
         self.calls.push(Call::Check { starts: starts.to_vec(), request: request.clone() });
     }
@@ -73,6 +82,7 @@ impl Cases {
         self.write(request_bytes(request).len() + 2, request);
         self.place_in([count + 1, count], &order, request);
         self.search(10, [count, count + 1, count], request);
+        self.groups(count.clamp(1, 3), request);
         self.check(&vec![0; count], request);
         self.read_plan(count, &[], request);
         self.write_plan(7 * count + 1, &vec![0; count], request);
@@ -85,6 +95,8 @@ impl Cases {
         self.place(0, &[7; 2], request);
         self.place(0, &(0..count).collect::<Vec<_>>(), request);
         self.search(0, [0; 3], request);
+        self.groups_in([0; 2], 9, request);
+        self.groups_in([count.min(9); 2], 0, request);
         self.check(&[], request);
         self.check(&vec![65535; count], request);
         self.read_plan(0, &[4; 3], request);

@@ -3,6 +3,7 @@
 use super::cases::Cases;
 use super::damage::{damage_file, damage_request, damage_starts};
 use super::dice::Dice;
+use super::grouping::random_groups;
 use super::ones::random_one;
 use super::shapes::{ring, wedged};
 use crate::bound::bound;
@@ -25,12 +26,17 @@ pub fn random_cases(seed: u64, count: usize) -> Cases {
     cases
 }
 
-/// Searches of small requests with a limit that lets most of them finish.
+/// Searches of small requests with a limit that lets most of them finish, and now and then as many groups as demands.
 pub fn small_searches(seed: u64, count: usize) -> Cases {
     let mut dice = Dice::new(seed);
     let mut cases = Cases::default();
     while cases.calls.len() < count {
         let request = small_request(&mut dice);
+        if dice.one_in(4) {
+            let count = if dice.one_in(4) { dice.between(1, 4) as usize } else { request.demand_count };
+            cases.groups(count, &request);
+            continue;
+        }
         let soon = request.demand_count + dice.below(12);
         let limit = dice.pick(&[soon as u64, 10_000, 10_000, 10_000]);
         cases.search(limit, [request.demand_count; 3], &request);
@@ -40,7 +46,7 @@ pub fn small_searches(seed: u64, count: usize) -> Cases {
 
 fn random_call(cases: &mut Cases, dice: &mut Dice) {
     let request = random_request(dice);
-    match dice.below(18) {
+    match dice.below(20) {
         0 | 1 => random_file(cases, dice, &request),
         2 => cases.sound(&request),
         3 => {
@@ -62,6 +68,7 @@ fn random_call(cases: &mut Cases, dice: &mut Dice) {
         }
         14 => random_frequency(cases, dice),
         15 => random_block(cases, dice),
+        16 | 17 => random_groups(cases, dice, &request),
         _ => cases.one(random_one(dice)),
     }
 }
@@ -135,9 +142,14 @@ fn tight_request(dice: &mut Dice) -> Request {
 
 /// A band from one slot less than the bound to three more, and no narrower than a demand.
 fn tighten(request: &mut Request, dice: &mut Dice) {
+    tighten_to(request, dice.between(-1, 3));
+}
+
+/// A band so much longer than the bound, no narrower than a demand and no wider than may be.
+pub fn tighten_to(request: &mut Request, more: i64) {
     let rules = Rules::right();
     let widest = request.demands.iter().map(|demand| demand.width(&rules)).max().unwrap_or(1);
-    request.band.slots = widest.max(bound(request, &rules) + dice.between(-1, 3));
+    request.band.slots = widest.max(bound(request, &rules) + more).min(rules.limits.slots_most);
 }
 
 /// As tight, with one of the high rates and now and then another.
@@ -166,7 +178,7 @@ fn large_request(dice: &mut Dice) -> Request {
 }
 
 /// A sound request; each pair gives the least and the most of slots, links and demands.
-fn request_of(dice: &mut Dice, slots: (i64, i64), links: (i64, i64), demands: (i64, i64)) -> Request {
+pub fn request_of(dice: &mut Dice, slots: (i64, i64), links: (i64, i64), demands: (i64, i64)) -> Request {
     let guards = [0, 0, 0, 1, 1, 2, 3, 8];
     let band = Band::new(dice.between(-400, 400), dice.between(slots.0, slots.1), dice.pick(&guards));
     let links = random_links(dice, links);
@@ -265,7 +277,7 @@ fn random_room(dice: &mut Dice, need: usize) -> usize {
 }
 
 /// One of them now and then, or all, by chance; else what is needed.
-fn random_rooms<const COUNT: usize>(dice: &mut Dice, need: usize) -> [usize; COUNT] {
+pub fn random_rooms<const COUNT: usize>(dice: &mut Dice, need: usize) -> [usize; COUNT] {
     let mut rooms = [need; COUNT];
     match dice.below(8) {
         0 => rooms = rooms.map(|need| random_room(dice, need)),

@@ -20,6 +20,8 @@ pub fn longest_cases() -> Cases {
     cases.write(ROOM_MOST, &largest_mixed());
     cases.place(ROOM_MOST, &vec![0; COUNT_MOST], &request);
     cases.search(10, [ROOM_MOST; 3], &request);
+    cases.groups_in([ROOM_MOST; 2], u32::MAX as usize, &request);
+    cases.groups_in([ROOM_MOST; 2], 2, &request);
     cases.check(&vec![0; COUNT_MOST], &request);
     cases.read_plan(ROOM_MOST, &vec![4; COUNT_MOST], &request);
     cases.write_plan(ROOM_MOST, &vec![0; COUNT_MOST], &request);
@@ -36,5 +38,6 @@ fn longest_accepted(cases: &mut Cases) {
     cases.check(&starts, &request);
     cases.write_plan(ROOM_MOST, &starts, &request);
     cases.search(200, [ROOM_MOST; 3], &stack(20, 0, &[1; 20]));
+    cases.groups_in([ROOM_MOST; 2], 3, &request);
     cases.one(One { count: COUNT_MOST, ..packed(200, 300) });
 }

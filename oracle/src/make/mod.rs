@@ -8,6 +8,7 @@ mod dice;
 mod files;
 mod fitting;
 mod grid;
+mod grouping;
 mod longest;
 mod memory;
 mod ones;
@@ -33,8 +34,10 @@ pub fn stored() -> Vec<Call> {
     ones::one_cases(&mut cases);
     planning::planning_cases(&mut cases);
     grid::grid_cases(&mut cases);
+    grouping::grouping_cases(&mut cases);
     searching::searching_cases(&mut cases);
     searching::long_cases(&mut cases);
+    grouping::long_cases(&mut cases);
     without_repeats(cases.calls)
 }
 

@@ -33,15 +33,6 @@ pub fn long_cases(cases: &mut Cases) {
     cases.search(100_000, [20; 3], &nested(20, 40));
 }
 
-/// Demands over one, two and three links of a ring, of changing widths: far from the bound.
-fn nested(count: usize, slots: i64) -> Request {
-    let demand = |at: usize| {
-        let route: Vec<usize> = (at..=at + at % 3).map(|link| link % 5).collect();
-        Demand::new(5 * at as i64, 1 + (at as i64 * 7) % 4, &route)
-    };
-    Request::new(Band::new(3, slots, 1), ring(5), (0..count).map(demand).collect())
-}
-
 /// How many steps the search takes without a limit that matters.
 fn steps_of(request: &Request) -> u64 {
     let [mut starts, mut order, mut blockers] = [[0; 20]; 3];

@@ -79,6 +79,15 @@ pub fn wedged(guard: i64, room: i64) -> Request {
     Request::new(Band::new(9, end + room, guard), line(3), demands)
 }
 
+/// Demands over one, two and three links of a ring, of changing widths: far from the bound.
+pub fn nested(count: usize, slots: i64) -> Request {
+    let demand = |at: usize| {
+        let route: Vec<usize> = (at..=at + at % 3).map(|link| link % 5).collect();
+        Demand::new(5 * at as i64, 1 + (at as i64 * 7) % 4, &route)
+    };
+    Request::new(Band::new(3, slots, 1), ring(5), (0..count).map(demand).collect())
+}
+
 /// A request without demands.
 pub fn bare(band: Band) -> Request {
     Request::new(band, line(1), vec![])

@@ -2,6 +2,7 @@
 
 use super::chance::random_cases;
 use super::dice::Dice;
+use super::grouping::placements;
 use super::longest::longest_cases;
 use super::ones::packed;
 use super::shapes::{changed, worked};
@@ -9,7 +10,8 @@ use crate::frames::{call_of, frame_of, framed, next_frame, Call};
 use crate::rates::Asked;
 use crate::request::{Band, Request};
 
-/// A damaged search may be given any limit. Streams with a larger one than this are left out: they would take too long.
+/// A damaged search may be given any limit, and groups may be many. Streams with a larger limit than this, or with more demands
+/// to place in all orders of the groups, are left out: they would take too long.
 const LIMIT_MOST: u64 = 20_000;
 
 /// Streams of which each begins with a good frame, has a malformed one next, and may go on with a good one that is not to
@@ -45,7 +47,7 @@ pub fn damaged(seed: u64, count: usize) -> Vec<Vec<u8>> {
 }
 
 fn unknown_ops() -> Vec<Vec<u8>> {
-    [0x00, 0x0C, 0x1F, 0x21, 0x7F, 0xFF].iter().flat_map(|&op| [framed(op, &[]), framed(op, &[0; 40])]).collect()
+    [0x00, 0x0D, 0x1F, 0x21, 0x7F, 0xFF].iter().flat_map(|&op| [framed(op, &[]), framed(op, &[0; 40])]).collect()
 }
 
 /// A call of each op but the first, whose body can have any length.
@@ -58,6 +60,7 @@ fn one_of_each(request: &Request) -> Vec<Call> {
         Call::Bound { request: request.clone() },
         Call::FirstFit { rooms: [3, 4], order: vec![2, 1, 0], request: request.clone() },
         Call::Search { limit: 5, rooms: [3; 3], request: request.clone() },
+        Call::Groups { rooms: [4, 3], count: 2, request: request.clone() },
         Call::Check { starts: vec![0, 3, 0], request: request.clone() },
         Call::ReadPlan { room: 3, file: vec![4, 0, 4, 0, 10, 0, 0], request: request.clone() },
         Call::WritePlan { room: 21, starts: vec![0, 3, 0], request },
@@ -127,6 +130,8 @@ fn too_much_room() -> Vec<Vec<u8>> {
             Call::Search { limit: 5, rooms: [room, 3, 3], request: request.clone() },
             Call::Search { limit: 5, rooms: [3, room, 3], request: request.clone() },
             Call::Search { limit: 5, rooms: [3, 3, room], request: request.clone() },
+            Call::Groups { rooms: [room, 3], count: 2, request: request.clone() },
+            Call::Groups { rooms: [3, room], count: 2, request: request.clone() },
             Call::ReadPlan { room, file: vec![], request: request.clone() },
             Call::WritePlan { room, starts: vec![0, 3, 0], request },
         ]);
@@ -139,7 +144,7 @@ fn overlong() -> Vec<Vec<u8>> {
     let longest = longest_cases().calls;
     let longer = longest.iter().map(frame_of).filter(|frame| frame[0] != 0x01);
     let mut frames: Vec<Vec<u8>> = longer.map(|frame| framed(frame[0], &[&frame[5..], &[0]].concat())).collect();
-    frames.extend((0x02..=0x0B).chain([0x20]).map(|op| framed(op, &[0; 200_000])));
+    frames.extend((0x02..=0x0C).chain([0x20]).map(|op| framed(op, &[0; 200_000])));
     frames
 }
 
@@ -159,7 +164,7 @@ fn damaged_frame(frame: &[u8], dice: &mut Dice) -> Vec<u8> {
     while dice.one_in(2) {
         damage_bytes(&mut body, dice);
     }
-    let other = if dice.one_in(8) { 0x20 } else { dice.below(13) as u8 };
+    let other = if dice.one_in(8) { 0x20 } else { dice.below(14) as u8 };
     let op = if dice.one_in(10) { other } else { frame[0] };
     framed(op, &body)
 }
@@ -179,7 +184,12 @@ fn damage_bytes(bytes: &mut Vec<u8>, dice: &mut Dice) {
 
 fn takes_long(mut stream: &[u8]) -> bool {
     while let Some(call) = next_frame(&mut stream).and_then(|(op, body)| call_of(op, body)) {
-        if matches!(call, Call::Search { limit, .. } if limit > LIMIT_MOST) {
+        let steps = match call {
+            Call::Search { limit, .. } => limit,
+            Call::Groups { count, request, .. } => placements(count, request.demand_count) as u64,
+            _ => 0,
+        };
+        if steps > LIMIT_MOST {
             return true;
         }
     }

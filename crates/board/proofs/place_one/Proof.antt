@@ -1,8 +1,10 @@
 -- `board::place_one` meets its contract. Assumes nothing.
+use mathlib.Core.Path.{ap, _∙_}
 use native.Mathlib.Omega.{arith}
 use borrow.Author.Needs.{needs}
 use Rattle.board.specs.StandingLaws.{past-blocks}
-use Rattle.board.specs.BoardLaws.{one-found, one-missed}
+use Rattle.board.specs.BoardLaws.{one-placed}
+use Rattle.board.specs.declared.Spot.{Spot}
 use Rattle.board.proofs.place_one.Statement.{statement}
 use Rattle.board.proofs.place_one.Tie as tie
 
@@ -36,8 +38,10 @@ blocker-below-requires c κs =
       (omega (arith, c .before .lowest-below .ensures, c .before .before .before .first-above .ensures, start .fits .slots .fits), omega (arith, c .before .before .before .before .sum .ensures, start .fits .width .fits, start .fits .guard .fits)),
     )
 
-cast-t20 : tie.Need-cast-t20
-cast-t20 c = search needs
+spot-below-requires : tie.Need-spot-below-requires
+spot-below-requires c κs =
+    let start = c .before .before .before .before .before .before .before .before in
+    omega (arith, c .before .before .before .before .first-above .ensures, start .fits .slots .fits)
 
 returns : tie.Need-returns
 returns c =
@@ -48,24 +52,10 @@ returns c =
     let above = c .before .before .before .before .before .first-above in
     let low = c .before .before .before .lowest-below in
     let below = c .before .blocker-below in
-    one-found (start .args .meets .now) (start .args .starts .now) (start .args .ends .now) (start .args .count) (start .args .width) (start .args .guard) (start .args .slots)
+    ap (λ (spot : Spot). record { spot = spot; blocker = below .result }) (c .spot-below .ensures)
+    ∙ one-placed (start .args .meets .now) (start .args .starts .now) (start .args .ends .now) (start .args .count) (start .args .width) (start .args .guard) (start .args .slots)
     (few .result) (past .result) (span .result) (above .result) (low .result) (below .result)
     (few .ensures) (past .ensures) (span .ensures) (above .ensures) (low .ensures) (below .ensures)
-    (omega (arith, c .if1 .taken))
-
-returns-2 : tie.Need-returns-2
-returns-2 c =
-    let start = c .before .before .before .before .before .before .before .before .before in
-    let few = c .before .before .before .before .before .before .before .before .at-most-200 in
-    let past = c .before .before .before .before .before .before .before .past-ends in
-    let span = c .before .before .before .before .before .before .sum in
-    let above = c .before .before .before .before .before .first-above in
-    let low = c .before .before .before .lowest-below in
-    let below = c .before .blocker-below in
-    one-missed (start .args .meets .now) (start .args .starts .now) (start .args .ends .now) (start .args .count) (start .args .width) (start .args .guard) (start .args .slots)
-    (few .result) (past .result) (span .result) (above .result) (low .result) (below .result)
-    (few .ensures) (past .ensures) (span .ensures) (above .ensures) (low .ensures) (below .ensures)
-    (omega (arith, c .if1 .left))
 
 pub place-one-spec : {M : Type 1} → statement M
 place-one-spec =
@@ -77,6 +67,5 @@ place-one-spec =
     first-above-requires
     lowest-below-requires
     blocker-below-requires
-    cast-t20
-    returns
-    returns-2)
+    spot-below-requires
+    returns)

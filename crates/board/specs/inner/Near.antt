@@ -6,6 +6,8 @@ use mathlib.Core.Path.{_≡_}
 use lib.Dec.{ltb}
 use lib.ListN.{getD}
 use Rattle.theory.specs.Problem.{Problem, apart}
+use Rattle.board.specs.declared.Spot.{Spot}
+use Rattle.board.specs.declared.Spot.the-variants.{At, Nowhere}
 
 -- the problem of placing number 200 beside blocks: block j ends, its guard included, at past j, which is 0 where it is not in the way;
 -- number 200 spans so many slots, its guard included
@@ -30,3 +32,7 @@ pub record PastEnds (meets : List Bool) (starts ends : List ℕ) (guard n : ℕ)
 -- no block before j is in the way at s
 unfoldable pub ClearTo : List ℕ → List ℕ → ℕ → ℕ → ℕ → Type 0
 ClearTo past starts span s j = (k : ℕ) → k < j → apart (nearProblem past starts span) k (getD starts k 0) 200 s ≡ true
+
+-- what a scan that stops at a limit has found: a start below the limit
+unfoldable pub spotBelow : ℕ → ℕ → Spot
+spotBelow start above = cond (ltb start above) (At start) Nowhere

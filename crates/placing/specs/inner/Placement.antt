@@ -1,11 +1,12 @@
 -- First fit as it goes on: what is asked of it, and how far it has come.
-use Prim.Native.Nat.{ℕ, _+_, _≤_, _<_}
-use mathlib.Core.List.{List, [], List·Memᴰ}
+use Prim.Native.Nat.{ℕ, _≤_, _<_}
+use mathlib.Core.List.{List, []}
 use mathlib.Core.Path.{_≡_}
 use lib.ListN.{length, getD, take, drop}
 use Rattle.theory.specs.Blocker.{blockerIn}
 use Rattle.theory.specs.Earlier.{NoRepeats}
 use Rattle.theory.specs.Problem.{Row, fill, top, startIn, Fitted, placed, firstFit}
+use Rattle.board.specs.inner.Standing.{Standing}
 use Rattle.request.specs.declared.Request.{Request}
 use Rattle.request.specs.View.{View, view, noEntry, widthOf, viewDemand}
 use Rattle.request.specs.Sound.{SoundRequest}
@@ -49,23 +50,6 @@ pub record PlanKept (v : View) (out : Fitted) (at by : List ℕ) : Type 0 where
   pub starts-are : (rows : List Row) → out ≡ placed rows → (j : ℕ) → j < 200 → getD at j 0 ≡ startIn rows j
   pub blockers-are : (rows : List Row) → out ≡ placed rows → (j : ℕ) → j < 200 → getD by j 0 ≡ blockerEntry (blockerIn (problemOf v) rows j)
 
--- the arrays hold where a row's demand starts and where it ends
-pub record HeldBy (v : View) (at ends : List ℕ) (r : Row) : Type 0 where
-  pub position : r .who < v .demandCount
-  pub starts : getD at (r .who) 0 ≡ r .at
-  pub ends-at : getD ends (r .who) 0 ≡ r .at + problemOf v .width (r .who)
-
--- a row of number j
-pub record RowOf (rows : List Row) (j : ℕ) : Type 0 where
-  pub row : Row
-  pub stands : List·Memᴰ row rows
-  pub number : row .who ≡ j
-
--- the arrays hold the rows, and nothing but the rows
-pub record Standing (v : View) (rows : List Row) (at ends : List ℕ) : Type 0 where
-  pub held : (r : Row) → List·Memᴰ r rows → HeldBy v at ends r
-  pub only : (j : ℕ) → 0 < getD ends j 0 → RowOf rows j
-
 -- the first k demands of the order are placed
 pub record PlacedTo (v : View) (order : List ℕ) (k end : ℕ) (at by ends : List ℕ) : Type 0 where
   -- the others are still to place
@@ -79,5 +63,5 @@ pub record PlacedTo (v : View) (order : List ℕ) (k end : ℕ) (at by ends : Li
   pub blockers-are : (j : ℕ) → j < 200 → getD by j 0 ≡ blockerEntry (blockerIn (problemOf v) (fill (problemOf v) [] (take k order)) j)
   pub blockers-full : length by ≡ 200
   -- what stands
-  pub standing : Standing v (fill (problemOf v) [] (take k order)) at ends
+  pub standing : Standing (problemOf v) (v .demandCount) (fill (problemOf v) [] (take k order)) at ends
   pub ends-full : length ends ≡ 200

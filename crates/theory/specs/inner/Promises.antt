@@ -27,7 +27,7 @@ pub record Grounds (P : Problem) (S bound : ℕ) (rows : List Row) (todo : List 
 -- the plan shown is what an order gives: it is allowed and ends at e, within the band
 pub record Shown (P : Problem) (S : ℕ) (rows : List Row) (todo : List ℕ) (a : Answer) (order : List ℕ) (e : ℕ) : Type 0 where
   pub best-is : a .best ≡ met (fill P rows order) order
-  pub order-ends : endsAt P rows order ≡ e
+  pub order-ends : endsAt P (fill P rows) order ≡ e
   pub within : e ≤ S
   pub allowed : Allowed P S rows todo (startIn (fill P rows order))
   pub plan-ends : planEnd P rows todo (startIn (fill P rows order)) ≡ e
@@ -41,7 +41,7 @@ pub record Finished (P : Problem) (S bound : ℕ) (rows : List Row) (todo : List
   pub listed : orders todo ≡ earlier ++ (order ∷ later)
   pub shown : Shown P S rows todo a order e
   pub none-lower : NoneBelow P S rows todo e
-  pub first : (o : List ℕ) → List·Memᴰ o earlier → e < endsAt P rows o
+  pub first : (o : List ℕ) → List·Memᴰ o earlier → e < endsAt P (fill P rows) o
   pub sum-at-bound : e ≡ bound → a .reached + a .ruled ≡ length earlier + 1
   pub sum-above-bound : e ≢ bound → a .reached + a .ruled ≡ factorial (length todo)
 
@@ -65,7 +65,7 @@ pub record Unfinished (P : Problem) (S bound limit : ℕ) (rows : List Row) (tod
   pub taken-in : List (List ℕ)
   pub stopped : Stopped limit todo a taken-in
   pub shown : Shown P S rows todo a order e
-  pub lowest-first : FirstLowest P rows (S + 1) taken-in order
+  pub lowest-first : FirstLowest P (fill P rows) (S + 1) taken-in order
   pub above-bound : bound < e
 
 -- unfinished without a plan: none of the orders taken in ends within S
@@ -73,7 +73,7 @@ pub record UnfinishedEmpty (P : Problem) (S limit : ℕ) (rows : List Row) (todo
   pub taken-in : List (List ℕ)
   pub stopped : Stopped limit todo a taken-in
   pub best-is : a .best ≡ none-met
-  pub none-within : (o : List ℕ) → List·Memᴰ o taken-in → S < endsAt P rows o
+  pub none-within : (o : List ℕ) → List·Memᴰ o taken-in → S < endsAt P (fill P rows) o
 
 -- what an answer promises, by its outcome
 unfoldable pub Promise : Problem → ℕ → ℕ → ℕ → List Row → List ℕ → Answer → Outcome → Type 0

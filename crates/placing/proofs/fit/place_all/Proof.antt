@@ -10,8 +10,7 @@ use Rattle.board.specs.Board.{placedBeside}
 use Rattle.request.specs.View.{view}
 use Rattle.request.specs.Sharing.{problemOf}
 use Rattle.placing.specs.inner.Placement.{BesideAsked, Sized, PlacedTo}
-use Rattle.placing.specs.BesideLaws.{board-same}
-use Rattle.placing.specs.PlacementLaws.{sized, beside-asked, placed-none, refused-reply, refused-kept, found-inside, placed-more, placed-answer, placed-kept}
+use Rattle.placing.specs.PlacementLaws.{sized, beside-asked, placed-none, beside-rows, refused-reply, refused-kept, found-inside, placed-more, placed-answer, placed-kept}
 use Rattle.placing.proofs.fit.place_all.Statement.{statement}
 use Rattle.placing.proofs.fit.place_all.Tie as tie
 
@@ -41,7 +40,7 @@ beside c =
     let v = view (start .args .t1) in
     let at = c .before .before .before .before .before .before .loop in
     c .before .place-beside .ensures
-    ∙ board-same v (fill (problemOf v) [] (take (at .k) (start .args .order .now))) (at .at) (at .ends)
+    ∙ beside-rows v (fill (problemOf v) [] (take (at .k) (start .args .order .now))) (at .at) (at .ends)
     (getD (start .args .order .now) (at .k) 0) (start .pre .asked .sound) (at .inv .1 .standing)
 
 loop-holds : tie.Need-loop-holds Inv-loop μ-loop

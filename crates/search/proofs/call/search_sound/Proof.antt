@@ -21,7 +21,7 @@ use Rattle.search.specs.inner.Told.{isMet}
 use Rattle.search.specs.Reply.{Buffers, roomsOf, checkSearch, searched}
 use Rattle.search.specs.ReplyLaws.{sizes-many, sizes-few, tested-sizes, refused-reply, refused-buffers, answered-reply, answered-buffers, plan-kept, no-plan-kept}
 use Rattle.search.specs.Demand3Laws.{best-fitted}
-use Rattle.search.specs.ShownLaws.{order-blockers}
+use Rattle.placing.specs.FirstFitLaws.{order-blockers}
 use Rattle.search.proofs.call.search_sound.Statement.{statement}
 use Rattle.search.proofs.call.search_sound.Tie as tie
 

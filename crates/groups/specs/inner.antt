@@ -1,0 +1,4 @@
+-- Definitions that no promise speaks of: what loops keep, and what proofs pass on.
+pub mod Table
+pub mod Members
+pub mod Walk
