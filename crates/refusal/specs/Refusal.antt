@@ -1,9 +1,9 @@
 -- What each refusal means: its number and its place. Every promise that speaks of a refusal speaks through these two.
 use Prim.Native.Nat.{ℕ}
 use Rattle.refusal.specs.declared.Refusal.{Refusal}
-use Rattle.refusal.specs.declared.Refusal.the-variants.{PastEnd, WrongTag, WrongLength, BandOutside, BadLink, TooManyDemands, BadRoute, IdentUsed, BadWidth, BufferShort, TooManyToSearch, NotAnOrder, NoStart, UnknownIdent, IdentSeen, NoRow, EndAbove, Clash, NoBlock, FileTooLong, UnknownRate, GroupsOutside}
+use Rattle.refusal.specs.declared.Refusal.the-variants.{PastEnd, WrongTag, WrongLength, BandOutside, BadLink, TooManyDemands, BadRoute, IdentUsed, BadWidth, BufferShort, TooManyToSearch, NotAnOrder, NoStart, UnknownIdent, IdentSeen, NoRow, EndAbove, Clash, NoBlock, FileTooLong, UnknownRate, GroupsOutside, NoCertificate}
 
--- the number of the fault, 1 to 21 and 24
+-- the number of the fault, 1 to 21, 24 and 30
 abbrev pub numberOf : Refusal → ℕ
 numberOf (PastEnd place) = 1
 numberOf (WrongTag place) = 2
@@ -27,6 +27,7 @@ numberOf (NoBlock place) = 19
 numberOf (FileTooLong place) = 20
 numberOf (UnknownRate place) = 21
 numberOf (GroupsOutside place) = 24
+numberOf (NoCertificate place) = 30
 
 -- the place where it was found
 abbrev pub placeOf : Refusal → ℕ
@@ -52,3 +53,4 @@ placeOf (NoBlock place) = place
 placeOf (FileTooLong place) = place
 placeOf (UnknownRate place) = place
 placeOf (GroupsOutside place) = place
+placeOf (NoCertificate place) = place

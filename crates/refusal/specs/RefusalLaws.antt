@@ -5,13 +5,13 @@ use mathlib.Core.List.{List, [], _∷_}
 use native.Mathlib.Omega.{arith}
 use lib.ListN.{getD}
 use Rattle.refusal.specs.declared.Refusal.{Refusal}
-use Rattle.refusal.specs.declared.Refusal.the-variants.{PastEnd, WrongTag, WrongLength, BandOutside, BadLink, TooManyDemands, BadRoute, IdentUsed, BadWidth, BufferShort, TooManyToSearch, NotAnOrder, NoStart, UnknownIdent, IdentSeen, NoRow, EndAbove, Clash, NoBlock, FileTooLong, UnknownRate, GroupsOutside}
+use Rattle.refusal.specs.declared.Refusal.the-variants.{PastEnd, WrongTag, WrongLength, BandOutside, BadLink, TooManyDemands, BadRoute, IdentUsed, BadWidth, BufferShort, TooManyToSearch, NotAnOrder, NoStart, UnknownIdent, IdentSeen, NoRow, EndAbove, Clash, NoBlock, FileTooLong, UnknownRate, GroupsOutside, NoCertificate}
 use Rattle.refusal.specs.Refusal.{numberOf, placeOf}
 
 -- the refusals that stand at a place, by their numbers from 1 on; where no refusal has a number, the first stands in
 abbrev refusalsAt : ℕ → List Refusal
 refusalsAt place =
-    PastEnd place ∷ WrongTag place ∷ WrongLength place ∷ BandOutside place ∷ BadLink place ∷ TooManyDemands place ∷ BadRoute place ∷ IdentUsed place ∷ BadWidth place ∷ BufferShort place ∷ TooManyToSearch place ∷ NotAnOrder place ∷ NoStart place ∷ UnknownIdent place ∷ IdentSeen place ∷ NoRow place ∷ EndAbove place ∷ Clash place ∷ NoBlock place ∷ FileTooLong place ∷ UnknownRate place ∷ PastEnd place ∷ PastEnd place ∷ GroupsOutside place ∷ []
+    PastEnd place ∷ WrongTag place ∷ WrongLength place ∷ BandOutside place ∷ BadLink place ∷ TooManyDemands place ∷ BadRoute place ∷ IdentUsed place ∷ BadWidth place ∷ BufferShort place ∷ TooManyToSearch place ∷ NotAnOrder place ∷ NoStart place ∷ UnknownIdent place ∷ IdentSeen place ∷ NoRow place ∷ EndAbove place ∷ Clash place ∷ NoBlock place ∷ FileTooLong place ∷ UnknownRate place ∷ PastEnd place ∷ PastEnd place ∷ GroupsOutside place ∷ PastEnd place ∷ PastEnd place ∷ PastEnd place ∷ PastEnd place ∷ PastEnd place ∷ NoCertificate place ∷ []
 
 -- the refusal that has a number and a place
 abbrev pub refusalOf : ℕ → ℕ → Refusal
@@ -41,6 +41,7 @@ refusal-of-itself (NoBlock place) = refl
 refusal-of-itself (FileTooLong place) = refl
 refusal-of-itself (UnknownRate place) = refl
 refusal-of-itself (GroupsOutside place) = refl
+refusal-of-itself (NoCertificate place) = refl
 
 -- two refusals with the same number and the same place are the same
 pub same-refusal : (r r′ : Refusal) → numberOf r ≡ numberOf r′ → placeOf r ≡ placeOf r′ → r ≡ r′
@@ -80,3 +81,4 @@ some-number (NoBlock place) = omega arith
 some-number (FileTooLong place) = omega arith
 some-number (UnknownRate place) = omega arith
 some-number (GroupsOutside place) = omega arith
+some-number (NoCertificate place) = omega arith

@@ -49,10 +49,12 @@ pub enum Refusal {
     UnknownRate(usize),
     // 24: so many groups cannot be made: none, more than 8, or more than there are demands; the place is how many.
     GroupsOutside(usize),
+    // 30: a certificate that is none; the place is a demand that weighs too much, or how many demands there are.
+    NoCertificate(usize),
 }
 
 impl Refusal {
-    // The fault's number, 1 to 21 and 24.
+    // The fault's number, 1 to 21, 24 and 30.
     pub fn number(self) -> u8
         ensures { λ r. ⌜ r ≡ numberOf self ⌝ }
     {
@@ -79,6 +81,7 @@ impl Refusal {
             Refusal::FileTooLong(_) => 20,
             Refusal::UnknownRate(_) => 21,
             Refusal::GroupsOutside(_) => 24,
+            Refusal::NoCertificate(_) => 30,
         }
     }
 
@@ -109,6 +112,7 @@ impl Refusal {
             Refusal::FileTooLong(place) => place,
             Refusal::UnknownRate(place) => place,
             Refusal::GroupsOutside(place) => place,
+            Refusal::NoCertificate(place) => place,
         }
     }
 }

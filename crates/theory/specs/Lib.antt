@@ -32,5 +32,7 @@ pub mod Groups
 pub mod GroupsLaws
 pub mod GroupWalkLaws
 pub mod GroupsAloneLaws
+pub mod Certificate
+pub mod CertificateLaws
 pub mod AlikeLaws
 pub mod inner
