@@ -7,13 +7,13 @@ use mathlib.Core.Path.{_≡_, refl, sym, ap, ap₂, subst, _∙_}
 use native.Mathlib.Omega.{arith}
 use lib.Dec.{leb, ltb, eqb}
 use lib.ListN.{length, getD}
-use borrow.Author.Tests.{leb-true, ltb-false, lt-ltb, eqb-true, eqb-false}
+use borrow.Author.Tests.{leb-true, ltb-false, lt-ltb, eqb-true, eqb-false, not-true}
 use Rattle.refusal.specs.declared.Refusal.the-variants.{NoCertificate}
 use Rattle.refusal.specs.Told.{Told}
 use Rattle.refusal.specs.ToldLaws.{refusal-told-whole, refusal-told-fault}
 use Rattle.theory.specs.Orders.{listing}
 use Rattle.theory.specs.Problem.{Problem}
-use Rattle.theory.specs.TestLaws.{by-test}
+use Rattle.theory.specs.TestLaws.{by-test, or-first, or-second}
 use Rattle.theory.specs.TriedLaws.{below-or-not}
 use Rattle.theory.specs.Certificate.{Certificate, weighed, certifiedEnd}
 use Rattle.theory.specs.CertificateLaws.{certificate-holds, certified-below, threes-enough}
@@ -53,31 +53,19 @@ weights-light a k (w ∷ weights) passes (suc i) h =
     weights-light a (k + 1) weights (next-sound (must (leb w a) (NoCertificate k)) (checkWeights a (k + 1) weights) passes) i (omega arith)
 
 -- a test that none passes
-or-false-first : (p q : Bool) → (p || q) ≡ false → p ≡ false
-or-false-first true q e = absurd (false≢true (sym e))
-or-false-first false q e = refl
-
-or-false-second : (p q : Bool) → (p || q) ≡ false → q ≡ false
-or-false-second true q e = absurd (false≢true (sym e))
-or-false-second false q e = e
-
 some-false : (test : ℕ → Bool) (k n : ℕ) → someFrom test k n ≡ false → (i : ℕ) → k ≤ i → i < k + n → test i ≡ false
 unfolding someFrom
 some-false test k zero none i low high = absurd (omega arith)
 some-false test k (suc n) none i low high =
     ⊎-elim
-    (λ (later : k < i). some-false test (k + 1) n (or-false-second (test k) (someFrom test (k + 1) n) none) i (omega arith) (omega arith))
-    (λ (here : i ≤ k). ap test (let e : i ≡ k = omega arith in e) ∙ or-false-first (test k) (someFrom test (k + 1) n) none)
+    (λ (later : k < i). some-false test (k + 1) n (or-second (test k) (someFrom test (k + 1) n) none) i (omega arith) (omega arith))
+    (λ (here : i ≤ k). ap test (let e : i ≡ k = omega arith in e) ∙ or-first (test k) (someFrom test (k + 1) n) none)
     (below-or-not k i)
 
 -- a test of two parts of which the first holds
 and-rest : (p q : Bool) → (p && q) ≡ false → p ≡ true → q ≡ false
 and-rest true q e h = e
 and-rest false q e h = absurd (false≢true h)
-
-not-true : (b : Bool) → not b ≡ true → b ≡ false
-not-true true e = absurd (false≢true e)
-not-true false e = refl
 
 module _ (P : Problem) (weights : List ℕ) (a K : ℕ) where
   -- no demand is the first of a heavy pair or three
@@ -117,7 +105,7 @@ module _ (P : Problem) (weights : List ℕ) (a K : ℕ) where
         ⊎-elim
         (λ (some-j : 0 < getD weights j 0).
         ltb-false a (getD weights i 0 + getD weights j 0)
-        (or-false-first (ltb a (getD weights i 0 + getD weights j 0)) (heavyThree P weights a K i j) (pair-says i j before inside e some-i some-j)))
+        (or-first (ltb a (getD weights i 0 + getD weights j 0)) (heavyThree P weights a K i j) (pair-says i j before inside e some-i some-j)))
         (λ (none-j : getD weights j 0 ≤ 0). omega (arith, light i (omega arith)))
         (below-or-not 0 (getD weights j 0)))
         (λ (none-i : getD weights i 0 ≤ 0). omega (arith, light j inside))
@@ -133,7 +121,7 @@ module _ (P : Problem) (weights : List ℕ) (a K : ℕ) where
         (λ (some-j : 0 < getD weights j 0).
         ⊎-elim
         (λ (some-k : 0 < getD weights k 0).
-        let three = or-false-second (ltb a (getD weights i 0 + getD weights j 0)) (heavyThree P weights a K i j) (pair-says i j ij (omega arith) eij some-i some-j) in
+        let three = or-second (ltb a (getD weights i 0 + getD weights j 0)) (heavyThree P weights a K i j) (pair-says i j ij (omega arith) eij some-i some-j) in
         let third =
         some-false
         (λ x. weighsBeside P weights a K i x && (weighsBeside P weights a K j x && ltb a (getD weights i 0 + getD weights j 0 + getD weights x 0)))
