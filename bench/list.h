@@ -3,7 +3,10 @@
 #define LIST_H
 #include <stdint.h>
 
-enum { LISTED = 200, HOPS = 13, GROUPS = 8, PAIRS = 91 };
+enum { LISTED = 200, HOPS = 13, GROUPS = 8, PAIRS = 91, NSFNET_NODES = 14, JOINED = 21 };
+
+/* the pairs of nodes that NSFNET joins, by a link each way */
+extern const unsigned char joined[JOINED][2];
 
 /* how often the five bit rates are asked for: mostly low ones, each as often, mostly high ones */
 enum spread { MOSTLY_LOW, EVEN, MOSTLY_HIGH, SPREADS };

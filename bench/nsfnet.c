@@ -4,9 +4,9 @@
 #include <stdlib.h>
 #include <string.h>
 
-enum { NODES = 14, JOINED = 21, LINKS = 2 * JOINED, WAYS = 2 * PAIRS, RATES = 5, EDGE = -284, SLOTS = 384 };
+enum { NODES = NSFNET_NODES, LINKS = 2 * JOINED, WAYS = 2 * PAIRS, RATES = 5, EDGE = -284, SLOTS = 384 };
 
-static const unsigned char joined[JOINED][2] = {
+const unsigned char joined[JOINED][2] = {
     {0, 1},  {0, 2}, {0, 7}, {1, 2}, {1, 3},  {2, 5},  {3, 4},   {3, 10},  {4, 5},   {4, 6}, {5, 9},
     {5, 13}, {6, 7}, {7, 8}, {8, 9}, {8, 11}, {8, 12}, {10, 11}, {10, 12}, {11, 13}, {12, 13},
 };

@@ -12,7 +12,7 @@ enum { STACK_BYTES = 1 << 20, PAINT = 0xA5, REACH = 33 };
 static unsigned char stack[STACK_BYTES];
 static ucontext_t here, there;
 
-static uint8_t file[LIGHTPLAN_REQUEST_BYTES + 1], plan[LIGHTPLAN_PLAN_BYTES + 1];
+static uint8_t file[LIGHTPLAN_REQUEST_BYTES + 1], plan[LIGHTPLAN_PLAN_BYTES + 1], weights[LIGHTPLAN_DEMANDS];
 static size_t file_bytes, plan_bytes;
 static uint16_t first[LIGHTPLAN_DEMANDS], second[LIGHTPLAN_DEMANDS], third[LIGHTPLAN_DEMANDS], routes[LIGHTPLAN_ROUTES];
 
@@ -107,6 +107,13 @@ static void call_check_starts(void)
     end = v.end;
 }
 
+static void call_certify(void)
+{
+    struct lightplan_certified c = lightplan_certify(file, file_bytes, first, LIGHTPLAN_DEMANDS, weights, LIGHTPLAN_DEMANDS, 2);
+    refusal = c.refusal;
+    end = c.end;
+}
+
 static void call_version(void) { refusal = lightplan_version() != LIGHTPLAN_VERSION; }
 
 static void call_frequency(void) { refusal = lightplan_frequency(-284, 384, 0, 141, 2).refusal; }
@@ -158,6 +165,8 @@ int main(void)
     make_plan(200, 0);
     measure("lightplan_check, the same and a plan of 200 rows", call_check, 0, 200);
     measure("lightplan_check_starts, the same", call_check_starts, 0, 200);
+    memset(weights, 1, sizeof weights);
+    measure("lightplan_certify, the same and 200 weights", call_certify, 0, 200);
     make_plan(200, 185);
     measure("lightplan_check, refused at its first row", call_check, LIGHTPLAN_END_ABOVE, 0);
     measure("lightplan_check_starts, refused at its last start", call_check_starts, LIGHTPLAN_END_ABOVE, 0);

@@ -71,11 +71,13 @@ for file in missing crates; do
     at_once 2 ./lightplan.sh $file
     at_once 2 ./lightdesk.sh search $file
     at_once 2 ./lightdesk.sh groups $file
+    at_once 2 ./lightdesk.sh settle $file
     at_once 2 ./lightdesk.sh check examples/R.request $file
 done
 at_once 2 ./lightplan.sh examples/R.request examples/T.request
 at_once 2 ./lightdesk.sh search examples/R.request ten
 at_once 2 ./lightdesk.sh groups examples/R.request ten
+at_once 2 ./lightdesk.sh settle examples/R.request ten
 at_once 2 ./lightdesk.sh check - -
 at_once 2 ./lightdesk.sh show examples/R.request
 

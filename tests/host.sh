@@ -9,6 +9,7 @@ set -euo pipefail
 cd "$(dirname "$0")/.."
 . tests/lib/host.sh
 . tests/lib/oracle.sh
+. tests/lib/desk.sh
 host_library
 build_program lightplan
 oracle_ready
@@ -18,57 +19,16 @@ work=target/host-test
 faults=$(awk '/^enum fault/ { on = 1 } on && /FAULTS/ { exit } on && /,/ { n += gsub(/,/, ",") } END { print n }' tests/host/wrong.c)
 passed=0
 ulimit -c 0
-# A sanitizer's report has a status of its own, so that it is never taken for an answer's.
-export ASAN_OPTIONS=exitcode=99 UBSAN_OPTIONS=exitcode=99:print_stacktrace=1
 
 rm -rf "$work"
 mkdir -p "$work"/{searched,checked}/{stored,random}
 
-failed() {
-    echo "FAILED: $*, seed $seed"
-    exit 1
-}
-
 # ---- what is built
-
-# strict_run PROGRAM ..: run a program that has sanitizers. An address space laid out by chance can stop AddressSanitizer at its start.
-strict_run() {
-    if [ $X86_NATIVE = yes ] && setarch "$(uname -m)" -R true 2>/dev/null; then
-        setarch "$(uname -m)" -R "$@"
-    else
-        x86_run "$@"
-    fi
-}
-
-# trial: whether a program with AddressSanitizer can be linked and run here. It wants more room than an emulator has to give.
-trial() {
-    printf 'int main(void) { return 0; }\n' >"$work/trial.c"
-    ("$X86_CC" -fsanitize=address -o "$work/trial" "$work/trial.c" && { [ $X86_NATIVE = yes ] || ulimit -v 33554432; } &&
-        strict_run "$work/trial") >/dev/null 2>&1
-}
-
-# The sanitizers with which a C program runs here; the search for leaks may be all that a machine forbids.
-all_sanitizers() {
-    strict=undefined,address
-    trial && return
-    export ASAN_OPTIONS=$ASAN_OPTIONS:detect_leaks=0
-    trial && return
-    strict=undefined
-    echo "left out: AddressSanitizer, which does not run on this machine"
-}
-
-# compile SANITIZERS NAME SOURCE..: a program linked with the library
-compile() {
-    local sanitizers=$1 name=$2
-    shift 2
-    # shellcheck disable=SC2086
-    "$X86_CC" $HOST_C -Werror -g -fsanitize="$sanitizers" -fno-sanitize-recover=all -o "$work/$name" "$@" "$HOST_LIBRARY"
-}
 
 all_sanitizers
 entries="tests/host/entries.c tests/host/lent.c tests/host/seen.c"
 wrong=tests/host/wrong.c
-for entry in read read_routes search groups check check_starts frequency version; do
+for entry in read read_routes search groups check check_starts certify frequency version; do
     wrong="$wrong -Wl,--wrap=lightplan_$entry"
 done
 # shellcheck disable=SC2086
@@ -84,9 +44,9 @@ hosts/c/build.sh
 
 # ---- the archive
 
-# The eight entries are all that it offers; it has no variable of its own, and takes nothing but copying and filling from the C library.
+# The nine entries are all that it offers; it has no variable of its own, and takes nothing but copying and filling from the C library.
 archive() {
-    local names=lightplan_check,lightplan_check_starts,lightplan_frequency,lightplan_groups,lightplan_read,lightplan_read_routes,lightplan_search,lightplan_version,
+    local names=lightplan_certify,lightplan_check,lightplan_check_starts,lightplan_frequency,lightplan_groups,lightplan_read,lightplan_read_routes,lightplan_search,lightplan_version,
     nm "$HOST_LIBRARY" >"$work/names"
     [ "$(awk '$2 ~ /^[A-TV-Z]$/ || $2 ~ /^[vw]$/ { print $3 }' "$work/names" | sort | tr '\n' ,)" = "$names" ] || failed "the archive offers other names"
     ! awk '$2 ~ /^[bBcCdD]$/ { found = 1 } END { exit !found }' "$work/names" || failed "the archive has variables"
@@ -109,21 +69,6 @@ header
 
 # ---- lightdesk: words, statuses, faults of use
 
-# says STATUS LINE ARGUMENT..: lightdesk ends with this status, and the last line printed is this one
-says() {
-    local status=0
-    strict_run "$work/lightdesk-strict" "${@:3}" >"$work/printed" 2>"$work/said" || status=$?
-    [ $status = "$1" ] || failed "status $status, not $1: lightdesk ${*:3}"
-    [ "$(tail -n 1 "$work/printed")" = "$2" ] || failed "other words: lightdesk ${*:3}: $(tail -n 1 "$work/printed")"
-    passed=$((passed + 1))
-}
-
-# begins LINE: what was printed last begins with this line
-begins() {
-    [ "$(head -n 1 "$work/printed")" = "$1" ] || failed "another line: $(head -n 1 "$work/printed")"
-    passed=$((passed + 1))
-}
-
 # blocked LINES: what was printed last says this, and no more, of who is in the way
 blocked() {
     [ "$(grep ' starts at ' "$work/printed" || true)" = "$1" ] || failed "others in the way: $(grep ' starts at ' "$work/printed")"
@@ -134,12 +79,6 @@ blocked() {
 booked() {
     [ "$(grep ' is booked at ' "$work/printed" || true)" = "$1" ] || failed "booked otherwise: $(grep ' is booked at ' "$work/printed")"
     passed=$((passed + 1))
-}
-
-# misuse ARGUMENT..: status 2, nothing on standard output, something on standard error
-misuse() {
-    says 2 '' "$@"
-    [ -s "$work/said" ] || failed "no word about: lightdesk $*"
 }
 
 best='This is the best there is, proved: '
@@ -198,11 +137,6 @@ searches() {
 placed() {
     [ "$(grep '^group \|^Numbers of groups ' "$work/printed" || true)" = "$1" ] || failed "groups in another order: $(grep '^group \|^Numbers ' "$work/printed")"
     passed=$((passed + 1))
-}
-
-# plan_of FILE: writes to the file the plan of the rows that were printed last
-plan_of() {
-    printf '%b' "$(awk '/^[0-9]/ { printf "\\04\\00\\04\\0%o\\0%o\\0%o\\0%o", int($1 / 256), $1 % 256, int($2 / 256), $2 % 256 }' "$work/printed")" >"$1"
 }
 
 # above SLOTS BOUND: the words for a plan of groups that ends so far above this bound

@@ -1,6 +1,6 @@
 #!/usr/bin/env bash
 # Builds the second program, runs its own tests, shows that the stored cases tell every wrong variant apart, and holds
-# its searches and groups against brute force over all plans and its answers against the laws. SEED=... repeats a run.
+# its searches, groups and certificates against brute force over all plans and its answers against the laws. SEED=... repeats a run.
 # The last line counts all of it: "N passed, 0 failed". Any failure ends it at once with a non-zero status.
 set -euo pipefail
 cd "$(dirname "$0")/.."

@@ -1,6 +1,6 @@
 #!/usr/bin/env bash
 # Makes every call of the library through the program `replay` and compares each line with the second program's: the stored cases,
-# the longest frames, cases by chance, searches and groups on small bands, and streams that are malformed. The ends on small
+# the longest frames, cases by chance, searches, groups and certificates on small bands, and streams that are malformed. The ends on small
 # bands are also held against brute force over all plans. Input that cannot be read is told, and not answered. SEED=... repeats a run,
 # CASES=... sets how many cases come by chance.
 # The last line counts the lines and streams: "N passed, 0 failed". The first difference ends it with a non-zero status.
@@ -83,11 +83,11 @@ passed=$((passed + small))
 
 # Every call is among the cases by chance, answered and refused.
 "$oracle" census <"$work/random.frames" >"$work/census"
-for op in 01 02 03 04 05 06 07 08 09 0A 0B 0C; do
+for op in 01 02 03 04 05 06 07 08 09 0A 0B 0C 21; do
     grep -q "^$op refused" "$work/census" && grep "^$op " "$work/census" | grep -qv refused || fail "call $op is not among the cases"
 done
 # Every call with a request gets one with bit rates, answered and refused, and refuses one for its rate.
-for op in 01 02 03 04 05 06 07 08 09 0C; do
+for op in 01 02 03 04 05 06 07 08 09 0C 21; do
     grep "^$op .* by rate [0-9]*$" "$work/census" >"$work/rates" || fail "call $op is not among the cases with rates"
     grep -q "^$op refused 21 " "$work/rates" && grep -q "^$op refused  9 " "$work/rates" && grep -qv refused "$work/rates" ||
         fail "call $op is not among the cases with rates"
@@ -95,6 +95,10 @@ done
 # Groups are found and not found, and refused for their number.
 for words in grouped nothing 'refused 24'; do
     grep -q "^0C $words [0-9]*$" "$work/census" || fail "call 0C is not among the cases with '$words'"
+done
+# Plans are called best and not, and certificates refused.
+for words in best atleast 'refused 30'; do
+    grep -q "^21 $words [0-9]*$" "$work/census" || fail "call 21 is not among the cases with '$words'"
 done
 # Call 20 refuses nothing: it finds a start or none, and names a blocker or none.
 for words in at 'at none' nowhere 'nowhere none'; do
@@ -117,7 +121,7 @@ done
 echo "$(cat "$work/count") streams, $malformed of them malformed"
 
 # The comparisons can fail: a digit changed, a line missing, a line too many, the last one cut short; an end one too high, an end
-# where nothing fits, an end of groups one too high.
+# where nothing fits, an end of groups one too high, a best plan one too high.
 middle=$((cases / 2))
 awk -v at=$middle 'NR == at { sub(/.$/, /0$/ ? "1" : "0") } { print }' "$work/random.printed" >"$work/changed"
 refuses random compare
@@ -133,6 +137,8 @@ refuses small check-best
 awk '!done && /^nofit/ { $1 = "finished"; done = 1 } { print }' "$work/small.printed" >"$work/changed"
 refuses small check-best
 awk '!done && /^grouped/ { $2 += 1; done = 1 } { print }' "$work/small.printed" >"$work/changed"
+refuses small check-best
+awk '!done && /^best/ { $2 += 1; done = 1 } { print }' "$work/small.printed" >"$work/changed"
 refuses small check-best
 
 echo "$passed passed, 0 failed"

@@ -1,16 +1,15 @@
 /* lightdesk: answers for the planner's desk, over the proved library. It prints what the library answers, and says in words whether
    this is the best there is. */
-#include "lightplan.h"
+#include "desk.h"
 #include "refusals.h"
+#include "settle.h"
 #include <errno.h>
 #include <stdio.h>
 #include <string.h>
 
-/* the exit statuses */
-enum status { YES = 0, NO = 1, TROUBLE = 2 };
-
 static const char usage[] = "usage: lightdesk search REQUEST [LIMIT]\n"
                             "       lightdesk groups REQUEST [GROUPS]\n"
+                            "       lightdesk settle REQUEST [SECONDS]\n"
                             "       lightdesk check REQUEST PLAN\n"
                             "       lightdesk --help\n";
 
@@ -20,6 +19,8 @@ static const char help[] =
     "        it 1000000). It takes up to 20 demands.\n"
     "groups  makes a plan for up to 200 demands: it cuts them, as they are listed, into GROUPS groups (1 to 8, and no more\n"
     "        than there are demands), and takes the best order of these. Without GROUPS it tries all these numbers.\n"
+    "settle  looks for a plan of up to 200 demands and for a proof that none ends lower, for at most SECONDS seconds (0 to\n"
+    "        86400; without it 10) or until Ctrl-C, and says what is known then.\n"
     "check   tests a plan file against a request file, of up to 200 demands.\n"
     "A file called - is standard input.\n"
     "\n"
@@ -29,37 +30,19 @@ static const char help[] =
     "these a plan that was found has a line for each demand that starts above 0, with who is in the way: `circuit A starts\n"
     "at N: circuit B ends at M, guard G`, with their idents, or without a guard `circuit A starts at N: circuit B ends\n"
     "there`. A stands there because of B, which was placed before it. Of groups it is then said which demands each has, by\n"
-    "their places in the listing, counted from 0, in the order in which they were placed. The last line says in words\n"
+    "their places in the listing, counted from 0, in the order in which they were placed. Of a plan that settle found it is\n"
+    "not said who is in the way, but which circuits prove that no plan ends below `low`. The last line says in words\n"
     "whether the plan is the best there is and how that is known, or what was refused and why.\n"
     "\n"
     "Exit status: 0 there is a plan, or the plan is accepted, be it the best or not; 1 there is none: nothing fits, none was\n"
     "found, or a file was refused; 2 wrong usage, or a file cannot be read or written.\n";
 
-static const uint32_t default_limit = 1000000;
-
-/* a file as it was read: at most one byte more than its limit, which is enough for the library to refuse it as too long */
-struct file {
-    uint8_t bytes[LIGHTPLAN_REQUEST_BYTES + 1];
-    size_t length;
-};
-
-/* a request file that was accepted, with its demands by listing position */
-struct desk {
-    struct file file;
-    struct lightplan_request request;
-    uint16_t idents[LIGHTPLAN_DEMANDS], widths[LIGHTPLAN_DEMANDS], rates[LIGHTPLAN_DEMANDS];
-};
+static const uint32_t default_limit = 1000000, default_seconds = 10;
 
 /* a plan that was found, by listing position, and who is in the way of each demand */
 struct found {
     uint16_t starts[LIGHTPLAN_DEMANDS], blockers[LIGHTPLAN_DEMANDS];
 };
-
-static enum status trouble(const char *with)
-{
-    fprintf(stderr, "lightdesk: %s: %s\n", with, strerror(errno));
-    return TROUBLE;
-}
 
 static enum status misused(void)
 {
@@ -72,55 +55,6 @@ static enum status helped(void)
     fputs(usage, stdout);
     fputs(help, stdout);
     return YES;
-}
-
-static enum status read_file(const char *name, size_t limit, struct file *file)
-{
-    int standard = strcmp(name, "-") == 0;
-    FILE *in = standard ? stdin : fopen(name, "rb");
-    if (!in)
-        return trouble(name);
-    file->length = fread(file->bytes, 1, limit + 1, in);
-    enum status status = ferror(in) ? trouble(name) : YES;
-    if (!standard)
-        fclose(in);
-    return status;
-}
-
-/* reads a request file and tests it; what is wrong with it has been said where the status is not YES */
-static enum status open_desk(const char *name, struct desk *desk)
-{
-    enum status status = read_file(name, LIGHTPLAN_REQUEST_BYTES, &desk->file);
-    if (status != YES)
-        return status;
-    desk->request = lightplan_read(desk->file.bytes, desk->file.length, desk->idents, LIGHTPLAN_DEMANDS, desk->widths, LIGHTPLAN_DEMANDS,
-                                   desk->rates, LIGHTPLAN_DEMANDS);
-    if (desk->request.refusal == LIGHTPLAN_ANSWERED)
-        return YES;
-    print_refusal(stdout, desk->request.refusal, desk->request.place, "request file", desk->file.length);
-    return NO;
-}
-
-/* a row for each demand: ident, start, end, central number, central MHz */
-static void print_rows(const struct desk *desk, const uint16_t *starts)
-{
-    const struct lightplan_request *request = &desk->request;
-    for (size_t k = 0; k < request->demands; k++) {
-        unsigned start = starts[k], width = desk->widths[k];
-        struct lightplan_frequency_of centre =
-            lightplan_frequency(request->n0, request->slots, request->guard, starts[k], desk->widths[k]);
-        printf("%u %u %u %ld %lld\n", desk->idents[k], start, start + width, (long)centre.n, (long long)centre.mhz);
-    }
-}
-
-/* a line for each demand that asks for a bit rate: how many slots that takes */
-static void print_rates(const struct desk *desk)
-{
-    for (size_t k = 0; k < desk->request.demands; k++) {
-        unsigned width = desk->widths[k];
-        if (desk->rates[k])
-            printf("circuit %u is booked at %u Gbit/s: %u slot%s\n", desk->idents[k], desk->rates[k], width, width == 1 ? "" : "s");
-    }
 }
 
 /* a line for each demand that starts above 0: who keeps it from starting lower */
@@ -161,12 +95,6 @@ static enum status print_finished(const struct desk *desk, const struct lightpla
     else
         puts("This is the best there is, proved: the search accounted for every order of the demands, and no plan at all ends lower.");
     return YES;
-}
-
-/* the fullest link needs more than the band has, which settles that nothing fits */
-static void print_too_full(const struct desk *desk, unsigned long bound)
-{
-    printf("Nothing fits, proved: the fullest link needs %lu slots, and the band has %u.\n", bound, desk->request.slots);
 }
 
 static enum status print_nothing_fits(const struct desk *desk, const struct lightplan_answer *answer)
@@ -378,7 +306,7 @@ static enum status check(const char *request_name, const char *plan_name)
     return NO;
 }
 
-/* a number of steps or groups, in decimal digits alone; 0 where the word is none */
+/* a number of steps, groups or seconds, in decimal digits alone; 0 where the word is none */
 static int read_number(const char *word, uint32_t *result)
 {
     uint64_t number = 0;
@@ -397,7 +325,7 @@ static int read_number(const char *word, uint32_t *result)
 
 static enum status run(int count, char **words)
 {
-    uint32_t limit = default_limit, cut;
+    uint32_t limit = default_limit, cut, seconds = default_seconds;
     if (count == 2 && !strcmp(words[1], "--help"))
         return helped();
     if (count == 3 && !strcmp(words[1], "search"))
@@ -408,6 +336,10 @@ static enum status run(int count, char **words)
         return groups(words[2], NULL);
     if (count == 4 && !strcmp(words[1], "groups") && read_number(words[3], &cut))
         return groups(words[2], &cut);
+    if (count == 3 && !strcmp(words[1], "settle"))
+        return settle(words[2], seconds);
+    if (count == 4 && !strcmp(words[1], "settle") && read_number(words[3], &seconds) && seconds <= SETTLE_SECONDS)
+        return settle(words[2], seconds);
     if (count == 4 && !strcmp(words[1], "check") && (strcmp(words[2], "-") || strcmp(words[3], "-")))
         return check(words[2], words[3]);
     return misused();

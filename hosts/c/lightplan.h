@@ -1,5 +1,5 @@
-/* Lightplan for C: reads request files, searches for the plan that ends lowest, checks plans. Eight calls over a library in which every
-   function is proved to meet its contract.
+/* Lightplan for C: reads request files, searches for the plan that ends lowest, checks plans, and holds certificates against them. Nine
+   calls over a library in which every function is proved to meet its contract.
 
    A request lists demands (circuits): each has an ident, a width in slots or a bit rate, which takes so many slots, and a route over
    links. A plan gives each demand a start, its first slot; the demand then ends at start + width. Demands go by listing position: their
@@ -11,7 +11,7 @@
    that the call is lent. With the count 0 the pointer is not looked at, and may be NULL.
 
    Refusals. Every struct begins with `refusal`. It is 0 for an answer. Else it is a number of enum lightplan_refusal, `place` says where
-   the fault is, every other field is 0 (but for `which` of a verdict), and every lent buffer is exactly as it was.
+   the fault is, every other field is 0 (but for `which`, where there is one), and every lent buffer is exactly as it was.
 
    Calls. No call fails otherwise, whatever the bytes are. There is no global state, no allocation, no input or output: calls may run in
    any number of threads at once, each with buffers of its own. All that a call needs besides is stack, see LIGHTPLAN_STACK. */
@@ -28,8 +28,9 @@ extern "C" {
 /* The version of these calls and structs. A library fits this header where lightplan_version() answers the same number.
    Changes: 2 numbers outcomes from 1 (1 did from 0), tells what a check refuses, and adds lightplan_read_routes and this number. 3 lends
    lightplan_search a third buffer, for who is in the way, and adds LIGHTPLAN_NOBODY. 4 reads demands by bit rate: it lends lightplan_read a
-   third buffer, for the rates, and adds LIGHTPLAN_UNKNOWN_RATE. 5 adds lightplan_groups and LIGHTPLAN_GROUPS_OUTSIDE. */
-#define LIGHTPLAN_VERSION 5
+   third buffer, for the rates, and adds LIGHTPLAN_UNKNOWN_RATE. 5 adds lightplan_groups and LIGHTPLAN_GROUPS_OUTSIDE. 6 adds
+   lightplan_certify, LIGHTPLAN_NO_CERTIFICATE and LIGHTPLAN_OF_CERTIFICATE. */
+#define LIGHTPLAN_VERSION 6
 
 /* The longest files that are read. To see that a file is too long it is enough to give one byte more. */
 #define LIGHTPLAN_REQUEST_BYTES 8128
@@ -55,10 +56,10 @@ extern "C" {
 /* In the blockers of lightplan_search and lightplan_groups: nobody is in the way. Listing positions are below LIGHTPLAN_DEMANDS. */
 #define LIGHTPLAN_NOBODY 65535
 
-/* A stack of so many bytes is enough for any of the calls, on x86-64. Measured with the heaviest inputs: lightplan_read 59264,
-   lightplan_read_routes 68896, lightplan_check 70400, lightplan_search 72768, lightplan_groups 103280, lightplan_check_starts 49456,
-   lightplan_frequency 40, lightplan_version 8. */
-#define LIGHTPLAN_STACK 114688
+/* A stack of so many bytes is enough for any of the calls, on x86-64. Measured with the heaviest inputs: lightplan_read 59248,
+   lightplan_read_routes 68896, lightplan_check 70400, lightplan_search 72768, lightplan_groups 113280, lightplan_check_starts 49456,
+   lightplan_certify 60224, lightplan_frequency 40, lightplan_version 8. */
+#define LIGHTPLAN_STACK 122880
 
 /* Why there is no answer. "Offset" is the byte of the file where the faulty field begins. */
 enum lightplan_refusal {
@@ -80,16 +81,19 @@ enum lightplan_refusal {
     LIGHTPLAN_NO_START = 13,          /* of a call that is not offered to C */
     LIGHTPLAN_UNKNOWN_IDENT = 14,     /* a plan row with an ident that no demand has; place: offset in the plan file */
     LIGHTPLAN_IDENT_SEEN = 15,        /* a plan row with an ident that an earlier row has; place: offset in the plan file */
-    LIGHTPLAN_NO_ROW = 16,            /* a demand without a start; place: the first such listing position, in lightplan_check_starts how
-                                         many starts were given */
-    LIGHTPLAN_END_ABOVE = 17,         /* an end above the slot count; place: offset in the plan file, in lightplan_check_starts the first
-                                         such listing position, in lightplan_frequency 0 */
+    LIGHTPLAN_NO_ROW = 16,            /* a demand without a start; place: the first such listing position, in lightplan_check_starts and
+                                         lightplan_certify how many starts were given */
+    LIGHTPLAN_END_ABOVE = 17,         /* an end above the slot count; place: offset in the plan file, in lightplan_check_starts and
+                                         lightplan_certify the first such listing position, in lightplan_frequency 0 */
     LIGHTPLAN_CLASH = 18,             /* on a link that they share two demands overlap, or leave less than the guard free; place: the
                                          lowest listing position that is too near to one before it */
     LIGHTPLAN_NO_BLOCK = 19,          /* of a call that is not offered to C */
     LIGHTPLAN_FILE_TOO_LONG = 20,     /* a file above its limit; place: the limit, 8128 for a request and 1400 for a plan */
     LIGHTPLAN_UNKNOWN_RATE = 21,      /* a bit rate other than 10, 40, 100, 400 and 1000 Gbit/s; place: offset */
-    LIGHTPLAN_GROUPS_OUTSIDE = 24     /* no groups, more than 8, or more than there are demands; place: how many were asked for */
+    LIGHTPLAN_GROUPS_OUTSIDE = 24,    /* no groups, more than 8, or more than there are demands; place: how many were asked for */
+    LIGHTPLAN_NO_CERTIFICATE = 30     /* weights that are no certificate; place: K where there are not K of them or `a` is not 1 or 2; else
+                                         the first listing position with a weight above `a`; else the lowest that is the first of a
+                                         pair, or of three, that share no link and weigh more than `a` together */
 };
 
 /* How a search came out. A struct of zeros, and a refusal, has none of these. */
@@ -109,12 +113,19 @@ enum lightplan_grouping {
                                    may be one all the same */
 };
 
-/* What a check refuses. */
+/* What a check refuses, and what lightplan_certify does. */
 enum lightplan_which {
-    LIGHTPLAN_OF_NOTHING = 0, /* nothing: the plan is accepted */
-    LIGHTPLAN_OF_REQUEST = 1, /* the request file; the place is in it */
-    LIGHTPLAN_OF_PLAN = 2,    /* the plan file, or the starts; the place is in them */
-    LIGHTPLAN_OF_BUFFER = 3   /* the lent buffer is too short for the starts of a plan that is allowed; with refusal 10 alone */
+    LIGHTPLAN_OF_NOTHING = 0,    /* nothing: the plan is accepted */
+    LIGHTPLAN_OF_REQUEST = 1,    /* the request file; the place is in it */
+    LIGHTPLAN_OF_PLAN = 2,       /* the plan file, or the starts; the place is in them */
+    LIGHTPLAN_OF_BUFFER = 3,     /* the lent buffer is too short for the starts of a plan that is allowed; with refusal 10 alone */
+    LIGHTPLAN_OF_CERTIFICATE = 4 /* the weights, or `a`, beside a plan that is allowed; with refusal 30 alone */
+};
+
+/* What a certificate proves. A struct of zeros, and a refusal, has none of these. */
+enum lightplan_certainty {
+    LIGHTPLAN_BEST = 1,    /* the plan is the best there is: it ends where the certificate does, and no allowed plan at all ends lower */
+    LIGHTPLAN_AT_LEAST = 2 /* no allowed plan ends below the certificate's end; this one ends above it, and may be the best all the same */
 };
 
 /* What a request file holds. */
@@ -170,6 +181,16 @@ struct lightplan_verdict {
     uint32_t bound;  /* the end that no plan can be below. An allowed plan whose end equals it is the best there is */
 };
 
+/* What a plan and a certificate tell. */
+struct lightplan_certified {
+    uint8_t refusal; /* 0: the plan is allowed, and the weights are a certificate; else a number of enum lightplan_refusal */
+    size_t place;    /* where the fault is; 0 without one */
+    uint8_t which;   /* a number of enum lightplan_which: what is refused */
+    uint8_t outcome; /* a number of enum lightplan_certainty; 0 beside a refusal */
+    uint16_t end;    /* the plan's end, its largest */
+    uint32_t low;    /* the certificate's end: no plan can end below it */
+};
+
 /* Where a block of slots stands on the grid of ITU-T G.694.1. */
 struct lightplan_frequency_of {
     uint8_t refusal; /* 0, or a number of enum lightplan_refusal */
@@ -220,6 +241,14 @@ struct lightplan_verdict lightplan_check(const uint8_t *file, size_t file_bytes,
 /* Checks starts, by listing position, against a request file. Starts behind K are not read. Refusals: lightplan_read's of the request
    file, then 16, 17 and 18. */
 struct lightplan_verdict lightplan_check_starts(const uint8_t *file, size_t file_bytes, const uint16_t *starts, size_t starts_count);
+
+/* Holds a plan and a certificate against a request file: starts, as in lightplan_check_starts, and a weight for each demand, by listing
+   position. Weights are a certificate where demands of which no two share a link never weigh more than `a` together, which is 1 or 2; who
+   found them, and how, does not matter. The certificate's end is the sum of weight times (width + guard) over all demands, divided by `a`
+   and rounded up, less one guard (0 where that is negative): no allowed plan ends below it. Refusals: lightplan_read's of the request file,
+   then 16, 17 and 18 of the plan, then 30. */
+struct lightplan_certified lightplan_certify(const uint8_t *file, size_t file_bytes, const uint16_t *starts, size_t starts_count,
+                                             const uint8_t *weights, size_t weights_count, uint8_t a);
 
 /* The frequency of the block that begins at slot `start` and is `width` slots wide, in a band of these numbers. Refusals: 4, 9, 17. */
 struct lightplan_frequency_of lightplan_frequency(int16_t n0, uint16_t slots, uint8_t guard, uint16_t start, uint16_t width);

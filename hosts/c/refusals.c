@@ -30,6 +30,8 @@ static const struct meaning meanings[] = {
     [LIGHTPLAN_UNKNOWN_RATE] = {"a demand's bit rate is none of 10, 40, 100, 400 and 1000 Gbit/s", offset},
     [LIGHTPLAN_GROUPS_OUTSIDE] = {"it cannot be cut into so many groups: there can be 1 to 8, and no more than it has demands",
                                   "how many were asked for"},
+    [LIGHTPLAN_NO_CERTIFICATE] = {"it has not one weight for each demand, or demands of which no two share a link weigh too much together",
+                                  "the listing position, counted from 0, of the first of these, or how many demands there are"},
 };
 
 enum { MEANINGS = sizeof meanings / sizeof meanings[0] };

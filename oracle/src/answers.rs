@@ -1,6 +1,7 @@
 //! One line for each call. Lent buffers are filled beforehand and shown whole.
 
 use crate::bound::tested_bound;
+use crate::certify::{certify, Certified, Offer};
 use crate::frames::{call_of, next_frame, Call};
 use crate::frequency::{to_block, to_frequency};
 use crate::groups::{group_orders, Grouped};
@@ -65,6 +66,7 @@ pub fn answer(call: &Call, rules: &Rules) -> String {
         Call::Block { band, n, m } => {
             said(to_block(band, *n, *m, rules).map(|(start, width)| format!("block {start} {width}")), &[])
         }
+        Call::Certify { offer, request, .. } => certified(request, offer, rules),
         Call::PlaceOne { one } => match place_one(one, rules) {
             Spot::At(start, blocker) => format!("at {start} {}", named(blocker)),
             Spot::Nowhere(blocker) => format!("nowhere {}", named(blocker)),
@@ -88,6 +90,15 @@ fn grouped(request: &Request, count: usize, rooms: &[usize; 2], rules: &Rules) -
         None => "nothing".to_string(),
     };
     said(found.map(words), &[entries(&starts), entries(&blockers)])
+}
+
+/// What a plan with a certificate is answered.
+fn certified(request: &Request, offer: &Offer, rules: &Rules) -> String {
+    let words = |told: Certified| match told {
+        Certified::Best(end) => format!("best {end}"),
+        Certified::AtLeast(low, end) => format!("atleast {low} {end}"),
+    };
+    said(certify(request, offer, rules).map(words), &[])
 }
 
 /// The words of an answer or of a refusal, then the lent buffers.

@@ -1,4 +1,4 @@
-//! What is said of searches and of whole groups on small bands, held against brute force over all plans.
+//! What is said of searches, of whole groups and of certificates on small bands, held against brute force over all plans.
 
 use crate::brute::{best_end, is_plan, plans_to_try};
 use crate::frames::Call;
@@ -13,16 +13,21 @@ struct Tally {
     unfinished: usize,
     grouped: usize,
     nothing_found: usize,
+    best: usize,
+    at_least: usize,
     passed_over: usize,
     wrong: usize,
 }
 
-/// Holds the line of every search and of every call for groups on a small band against brute force and prints the counts;
-/// false when one is wrong, or when of finished, nothing fits, grouped or nothing found none is held. Refusals are passed over.
+/// Holds the line of every search, of every call for groups and of every certificate on a small band against brute force and
+/// prints the counts; false when one is wrong, or when of the first word of an answer that settles something none is held.
+/// Refusals are passed over.
 pub fn check(calls: &[Call], lines: &[String]) -> bool {
     let mut tally = Tally::default();
     for (index, (call, line)) in calls.iter().zip(lines).enumerate() {
-        let (Call::Search { request, .. } | Call::Groups { request, .. }) = call else { continue };
+        let (Call::Search { request, .. } | Call::Groups { request, .. } | Call::Certify { request, .. }) = call else {
+            continue;
+        };
         if small(request) && !line.starts_with("refused ") {
             hold(index + 1, call, request, line, &mut tally);
         } else {
@@ -30,17 +35,19 @@ pub fn check(calls: &[Call], lines: &[String]) -> bool {
         }
     }
     println!(
-        "best ends: {} finished, {} nothing fits, {} unfinished, {} grouped, {} nothing found held against brute force, \
-         {} passed over, {} wrong",
+        "best ends: {} finished, {} nothing fits, {} unfinished, {} grouped, {} nothing found, {} best, {} at least held \
+         against brute force, {} passed over, {} wrong",
         tally.finished,
         tally.nothing_fits,
         tally.unfinished,
         tally.grouped,
         tally.nothing_found,
+        tally.best,
+        tally.at_least,
         tally.passed_over,
         tally.wrong
     );
-    let kinds = [tally.finished, tally.nothing_fits, tally.grouped, tally.nothing_found];
+    let kinds = [tally.finished, tally.nothing_fits, tally.grouped, tally.nothing_found, tally.best, tally.at_least];
     calls.len() == lines.len() && tally.wrong == 0 && kinds.iter().all(|&held| held > 0)
 }
 
@@ -56,11 +63,14 @@ fn hold(frame: usize, call: &Call, request: &Request, line: &str, tally: &mut Ta
         Some("nofit") => tally.nothing_fits += 1,
         Some("grouped") => tally.grouped += 1,
         Some("nothing") => tally.nothing_found += 1,
+        Some("best") => tally.best += 1,
+        Some("atleast") => tally.at_least += 1,
         _ => tally.unfinished += 1,
     }
     let best = best_end(request, &Rules::right());
     let held = match call {
         Call::Groups { count, .. } => groups_agree(request, *count, line, best),
+        Call::Certify { offer, .. } => certificate_agrees(request, &offer.starts, line, best),
         _ => agrees(request, line, best),
     };
     if held != Some(true) {
@@ -98,6 +108,18 @@ fn groups_agree(request: &Request, count: usize, line: &str, best: Option<i64>) 
         "nothing" => Some(!alone || best.is_none()),
         _ => None,
     }
+}
+
+/// Best means the best of all plans; else none of them ends below the certificate's end. The plan given is one, and has its end.
+fn certificate_agrees(request: &Request, starts: &[i64], line: &str, best: Option<i64>) -> Option<bool> {
+    let words: Vec<&str> = line.split(' ').collect();
+    let number = |at: usize| words.get(at).and_then(|word| word.parse::<i64>().ok());
+    let (end, lowest) = match words[0] {
+        "best" => (number(1)?, best? == number(1)?),
+        "atleast" => (number(2)?, number(1)? <= best? && number(1)? < number(2)?),
+        _ => return None,
+    };
+    Some(lowest && is_plan(request, starts, end, &Rules::right())?)
 }
 
 fn entries(word: &str) -> Option<Vec<i64>> {

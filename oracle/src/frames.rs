@@ -1,5 +1,6 @@
 //! Frames: op (1 byte), body length (4 bytes), body. All numbers are big-endian.
 
+use crate::certify::Offer;
 use crate::fields::put_two;
 use crate::one::{One, Standing, NUMBERS_HELD};
 use crate::rates::Asked;
@@ -9,8 +10,11 @@ const LINKS_HELD: usize = 64;
 const DEMANDS_HELD: usize = 200;
 const HOPS_HELD: usize = 32;
 const ROOM_MOST: usize = 8192;
+/// Starts, and weights, that stand in the body beside a certificate.
+pub const OFFERED_HELD: usize = 256;
 
-/// One call, as a frame asks for it. Rooms stand in the sequence of the buffers: starts, order, blockers.
+/// One call, as a frame asks for it. Rooms stand in the sequence of the buffers: starts, order, blockers. Counts of starts and
+/// weights are stated apart from them, since a count may exceed what the body holds.
 #[derive(Clone, Debug, PartialEq)]
 pub enum Call {
     ReadRequest { file: Vec<u8> },
@@ -26,6 +30,7 @@ pub enum Call {
     Frequency { band: Band, start: i64, width: i64 },
     Block { band: Band, n: i64, m: i64 },
     PlaceOne { one: One },
+    Certify { counts: [usize; 2], offer: Offer, request: Request },
 }
 
 impl Call {
@@ -40,7 +45,8 @@ impl Call {
             | Call::Groups { request, .. }
             | Call::Check { request, .. }
             | Call::ReadPlan { request, .. }
-            | Call::WritePlan { request, .. } => Some(request),
+            | Call::WritePlan { request, .. }
+            | Call::Certify { request, .. } => Some(request),
             _ => None,
         }
     }
@@ -57,7 +63,8 @@ impl Call {
             | Call::Groups { request, .. }
             | Call::Check { request, .. }
             | Call::ReadPlan { request, .. }
-            | Call::WritePlan { request, .. } => *request = other,
+            | Call::WritePlan { request, .. }
+            | Call::Certify { request, .. } => *request = other,
             _ => {}
         }
         call
@@ -165,6 +172,7 @@ impl<'a> Cursor<'a> {
             0x0B => Call::Block { band: self.band()?, n: self.number(4)? as u32 as i32 as i64, m: self.two()? as i64 },
             0x0C => self.groups()?,
             0x20 => Call::PlaceOne { one: self.one()? },
+            0x21 => self.certify()?,
             _ => return None,
         })
     }
@@ -187,6 +195,16 @@ impl<'a> Cursor<'a> {
     fn groups(&mut self) -> Option<Call> {
         let rooms = [self.room()?, self.room()?];
         Some(Call::Groups { rooms, count: self.number(4)? as usize, request: self.raw()? })
+    }
+
+    /// What a count says beyond 256 starts or weights is not in the frame.
+    fn certify(&mut self) -> Option<Call> {
+        let start_count = self.two()?;
+        let starts = (0..start_count.min(OFFERED_HELD)).map(|_| Some(self.two()? as i64)).collect::<Option<_>>()?;
+        let weight_count = self.two()?;
+        let weights = self.take(weight_count.min(OFFERED_HELD))?.iter().map(|&weight| weight as i64).collect();
+        let offer = Offer { starts, weights, most: self.byte()? as i64 };
+        Some(Call::Certify { counts: [start_count, weight_count], offer, request: self.raw()? })
     }
 
     fn standing(&mut self) -> Option<Standing> {
@@ -246,6 +264,7 @@ fn op_and_body(call: &Call) -> (u8, Vec<u8>) {
             (0x0B, [band_bytes(band), (*n as i32).to_be_bytes().to_vec(), two(*m as usize)].concat())
         }
         Call::PlaceOne { one } => (0x20, one_bytes(one)),
+        Call::Certify { counts, offer, request } => (0x21, [offer_bytes(*counts, offer), raw(request)].concat()),
     }
 }
 
@@ -270,6 +289,17 @@ fn band_bytes(band: &Band) -> Vec<u8> {
     put_two(&mut out, band.n0);
     put_two(&mut out, band.slots);
     out.push(band.guard as u8);
+    out
+}
+
+fn offer_bytes(counts: [usize; 2], offer: &Offer) -> Vec<u8> {
+    let mut out = two(counts[0]);
+    for &start in &offer.starts {
+        put_two(&mut out, start);
+    }
+    out.extend(two(counts[1]));
+    out.extend(offer.weights.iter().map(|&weight| weight as u8));
+    out.push(offer.most as u8);
     out
 }
 

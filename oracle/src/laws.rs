@@ -2,6 +2,7 @@
 
 use crate::answers::answer;
 use crate::blocker_laws::{blockers_hold, one_holds, stuck_holds, Given};
+use crate::certificate_laws::certificate_holds;
 use crate::frames::Call;
 use crate::frequency::{to_block, to_frequency};
 use crate::group_laws::groups_hold;
@@ -34,7 +35,7 @@ pub fn check(calls: &[Call]) -> bool {
     broken == 0 && held > 0
 }
 
-/// Whether the call's answer keeps its laws; `None` for a refusal other than 13 or a call without one.
+/// Whether the call's answer keeps its laws; `None` for a refusal other than 13 and 30 or a call without one.
 pub fn law(call: &Call, rules: &Rules) -> Option<bool> {
     match (own_law(call, rules), same_by_width(call, rules)) {
         (Some(own), Some(same)) => Some(own && same),
@@ -54,6 +55,7 @@ fn own_law(call: &Call, rules: &Rules) -> Option<bool> {
         Call::Frequency { band, start, width } => there_and_back(band, *start, *width, rules),
         Call::Block { band, n, m } => back_and_there(band, *n, *m, rules),
         Call::PlaceOne { one } => one_holds(one, rules),
+        Call::Certify { offer, request, .. } => certificate_holds(request, offer, rules),
         _ => None,
     }
 }

@@ -7,6 +7,8 @@ pub mod blockers;
 pub mod bound;
 pub mod brute;
 pub mod census;
+pub mod certificate_laws;
+pub mod certify;
 pub mod compare;
 pub mod fields;
 pub mod frames;

@@ -20,7 +20,8 @@ pub fn check_starts(request: &Request, starts: &[i64], rules: &Rules) -> Result<
     Ok(plan_end(request, starts, rules))
 }
 
-fn test_starts(check: u8, request: &Request, starts: &[i64], rules: &Rules) -> Result<(), Refusal> {
+/// One test of the request or of the starts beside it.
+pub fn test_starts(check: u8, request: &Request, starts: &[i64], rules: &Rules) -> Result<(), Refusal> {
     match check {
         REQUEST => test_request(request, rules),
         16 => test_given(request, starts, rules),

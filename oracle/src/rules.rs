@@ -9,6 +9,12 @@ pub const REQUEST: u8 = 0;
 pub const FIELDS: u8 = 100;
 /// In a check list: the file ended without a band or a link.
 pub const EARLY_END: u8 = 101;
+/// In a check list: 30 for a certificate of the wrong shape.
+pub const SHAPE: u8 = 102;
+/// In a check list: 30 for a weight above a.
+pub const WEIGHTS: u8 = 103;
+/// In a check list: 30 for two demands or three that weigh too much together.
+pub const SETS: u8 = 104;
 
 #[derive(Clone)]
 pub struct Limits {
@@ -25,6 +31,8 @@ pub struct Limits {
     pub search_most: usize,
     pub groups_least: usize,
     pub groups_most: usize,
+    pub weighed_least: i64,
+    pub weighed_most: i64,
     pub request_bytes: usize,
     pub plan_bytes: usize,
 }
@@ -43,6 +51,7 @@ pub struct Checks {
     pub first_fit: Vec<u8>,
     pub search: Vec<u8>,
     pub groups: Vec<u8>,
+    pub certify: Vec<u8>,
     pub starts: Vec<u8>,
     pub plan_file: Vec<u8>,
     pub plan_row: Vec<u8>,
@@ -88,6 +97,8 @@ fn right_limits() -> Limits {
         search_most: 20,
         groups_least: 1,
         groups_most: 8,
+        weighed_least: 1,
+        weighed_most: 2,
         request_bytes: 8128,
         plan_bytes: 1400,
     }
@@ -106,6 +117,7 @@ fn right_checks() -> Checks {
         first_fit: vec![REQUEST, 12, 10, 13],
         search: vec![REQUEST, 11, 10],
         groups: vec![REQUEST, 10, 24],
+        certify: vec![REQUEST, 16, 17, 18, SHAPE, WEIGHTS, SETS],
         starts: vec![REQUEST, 16, 17, 18],
         plan_file: vec![REQUEST, 20, FIELDS, 16, 18, 10],
         plan_row: vec![1, 2, 3, 14, 15, 17],

@@ -2,7 +2,7 @@
 
 use crate::answers::answer;
 use crate::frames::Call;
-use crate::rules::{Checks, Limits, Rules, EARLY_END, FIELDS, RATES, REQUEST};
+use crate::rules::{Checks, Limits, Rules, EARLY_END, FIELDS, RATES, REQUEST, SETS, SHAPE, WEIGHTS};
 use crate::slips::SLIPS;
 
 pub struct Variant {
@@ -31,7 +31,7 @@ fn slipped() -> Vec<Variant> {
 
 type List = fn(&mut Checks) -> &mut Vec<u8>;
 
-const LISTS: [(&str, List); 17] = [
+const LISTS: [(&str, List); 18] = [
     ("request file", |checks| &mut checks.request_file),
     ("band field", |checks| &mut checks.band_field),
     ("link field", |checks| &mut checks.link_field),
@@ -43,6 +43,7 @@ const LISTS: [(&str, List); 17] = [
     ("first fit", |checks| &mut checks.first_fit),
     ("search", |checks| &mut checks.search),
     ("groups", |checks| &mut checks.groups),
+    ("certificate", |checks| &mut checks.certify),
     ("check of starts", |checks| &mut checks.starts),
     ("plan file", |checks| &mut checks.plan_file),
     ("plan row", |checks| &mut checks.plan_row),
@@ -84,13 +85,16 @@ fn told(check: u8) -> String {
         REQUEST => "the request's tests".to_string(),
         FIELDS => "the fields".to_string(),
         EARLY_END => "the early end".to_string(),
+        SHAPE => "the certificate's shape".to_string(),
+        WEIGHTS => "its weights".to_string(),
+        SETS => "its pairs and threes".to_string(),
         number => number.to_string(),
     }
 }
 
 /// A check moved further than to its neighbour's place, or left out.
 fn moved() -> Vec<Variant> {
-    let orders: [(&str, List, &[u8]); 15] = [
+    let orders: [(&str, List, &[u8]); 21] = [
         ("request in memory: no link after the demands", |checks| &mut checks.memory, &[4, 5, 6, 2]),
         ("request in memory: the demands before the links", |checks| &mut checks.memory, &[4, 6, 2, 5]),
         ("demand in memory: 3 first, as in files", |checks| &mut checks.memory_demand, &[3, 6, 8, 21, 9, 7]),
@@ -106,6 +110,12 @@ fn moved() -> Vec<Variant> {
         ("demand in memory: 3 before 21", |checks| &mut checks.memory_demand, &[6, 8, 3, 21, 9, 7]),
         ("demand in memory: no 21", |checks| &mut checks.memory_demand, &[6, 8, 9, 3, 7]),
         ("groups: 24 before the request's tests", |checks| &mut checks.groups, &[24, REQUEST, 10]),
+        ("certificate: before the plan", |checks| &mut checks.certify, &[REQUEST, SHAPE, WEIGHTS, SETS, 16, 17, 18]),
+        ("certificate: no 17", |checks| &mut checks.certify, &[REQUEST, 16, 18, SHAPE, WEIGHTS, SETS]),
+        ("certificate: no 18", |checks| &mut checks.certify, &[REQUEST, 16, 17, SHAPE, WEIGHTS, SETS]),
+        ("certificate: any shape", |checks| &mut checks.certify, &[REQUEST, 16, 17, 18, WEIGHTS, SETS]),
+        ("certificate: any weights", |checks| &mut checks.certify, &[REQUEST, 16, 17, 18, SHAPE, SETS]),
+        ("certificate: no pairs, no threes", |checks| &mut checks.certify, &[REQUEST, 16, 17, 18, SHAPE, WEIGHTS]),
     ];
     let variant = |(name, list, order): (&str, List, &[u8])| {
         let mut rules = Rules::right();
@@ -119,7 +129,7 @@ type Shift = fn(&mut Limits);
 
 /// Limits one too low or one too high.
 fn shifted() -> Vec<Variant> {
-    let shifts: [(&str, Shift); 30] = [
+    let shifts: [(&str, Shift); 34] = [
         ("n0 from -401", |limits| limits.n0_least -= 1),
         ("n0 from -399", |limits| limits.n0_least += 1),
         ("n0 to 399", |limits| limits.n0_most -= 1),
@@ -146,6 +156,10 @@ fn shifted() -> Vec<Variant> {
         ("groups from 2", |limits| limits.groups_least += 1),
         ("7 groups at most", |limits| limits.groups_most -= 1),
         ("9 groups at most", |limits| limits.groups_most += 1),
+        ("a from 0", |limits| limits.weighed_least -= 1),
+        ("a from 2", |limits| limits.weighed_least += 1),
+        ("a to 1", |limits| limits.weighed_most -= 1),
+        ("a to 3", |limits| limits.weighed_most += 1),
         ("request files to 8,127 bytes", |limits| limits.request_bytes -= 1),
         ("request files to 8,129 bytes", |limits| limits.request_bytes += 1),
         ("plan files to 1,399 bytes", |limits| limits.plan_bytes -= 1),

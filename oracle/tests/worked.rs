@@ -167,6 +167,7 @@ fn refusals_of(op: u8) -> Vec<u8> {
         0x08 => &[20, 1, 2, 3, 14, 15, 17, 16, 18, 10],
         0x09 => &[16, 17, 18, 10],
         0x0C => &[10, 24],
+        0x21 => &[16, 17, 18, 30],
         _ => &[],
     };
     [&request, own].concat()
@@ -175,7 +176,7 @@ fn refusals_of(op: u8) -> Vec<u8> {
 #[test]
 fn stored_cases_show_every_refusal_in_every_call() {
     let seen: Vec<(u8, String)> = stored().iter().map(|call| (frame_of(call)[0], headline(call))).collect();
-    for op in 0x01..=0x0C {
+    for op in (0x01..=0x0C).chain([0x21]) {
         for number in refusals_of(op) {
             let wanted = (op, format!("refused {number:>2}"));
             assert!(seen.contains(&wanted), "op {op:02X} never refuses with {number}");

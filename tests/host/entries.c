@@ -162,6 +162,86 @@ static struct lightplan_verdict check_starts(const struct seen *seen, const uint
     return verdict;
 }
 
+/* ---- lightplan_certify */
+
+/* holds starts and weights against a file; both are lent so that none behind them can be read */
+static struct lightplan_certified certify_with(const struct seen *seen, const uint16_t *starts, size_t count, const uint8_t *weights,
+                                               size_t weighed, unsigned a)
+{
+    uint16_t *first = lent_out(&second_lent, 2 * count);
+    uint8_t *second = lent_out(&third_lent, weighed);
+    memcpy(first, starts, 2 * count);
+    memcpy(second, weights, weighed);
+    struct lightplan_certified told = lightplan_certify(seen->file, seen->bytes, first, count, second, weighed, (uint8_t)a);
+    HOLD(!memcmp(first, starts, 2 * count) && lent_kept(&second_lent, 2 * count));
+    HOLD(!memcmp(second, weights, weighed) && lent_kept(&third_lent, weighed));
+    return told;
+}
+
+static void hold_uncertified(struct lightplan_certified told, unsigned refusal, size_t place, unsigned which)
+{
+    HOLD(told.refusal == refusal && told.place == place && told.which == which);
+    HOLD(told.outcome == 0 && told.end == 0 && told.low == 0);
+}
+
+/* weights beside an allowed plan: what is told is what a few lines of C work out. Gives the certificate's end, 0 without one */
+static uint32_t hold_certificate(const struct seen *seen, const uint16_t *starts, const uint8_t *weights, size_t weighed, unsigned a)
+{
+    struct lightplan_certified told = certify_with(seen, starts, seen->demands, weights, weighed, a);
+    size_t fault = certificate_fault(seen, weights, weighed, a);
+    if (fault != NO_PLACE) {
+        hold_uncertified(told, LIGHTPLAN_NO_CERTIFICATE, fault, LIGHTPLAN_OF_CERTIFICATE);
+        return 0;
+    }
+    uint32_t end = end_of(seen, starts), low = certificate_end(seen, weights, a);
+    HOLD(told.refusal == LIGHTPLAN_ANSWERED && told.place == 0 && told.which == LIGHTPLAN_OF_NOTHING);
+    HOLD(told.end == end && told.low == low && low <= end);
+    HOLD(told.outcome == (low == end ? LIGHTPLAN_BEST : LIGHTPLAN_AT_LEAST));
+    return low;
+}
+
+/* the demands of one link are a certificate, with a weight of 1 out of 1 or of 2 out of 2, and those of the fullest link give the bound */
+static void hold_links_certify(const struct seen *seen, const uint16_t *starts)
+{
+    uint8_t weights[LIGHTPLAN_DEMANDS] = {0};
+    uint32_t highest = 0;
+    for (size_t link = 0; link < seen->links; link++) {
+        for (size_t k = 0; k < seen->demands; k++)
+            weights[k] = seen->links_of[k] >> link & 1;
+        uint32_t low = hold_certificate(seen, starts, weights, seen->demands, 1);
+        for (size_t k = 0; k < seen->demands; k++)
+            weights[k] *= 2;
+        HOLD(hold_certificate(seen, starts, weights, seen->demands, 2) == low);
+        highest = low > highest ? low : highest;
+    }
+    HOLD(highest == seen->bound);
+}
+
+/* weights that may be a certificate or not; those of another shape are none; and a plan that is refused is told before them */
+static void hold_certificates(const struct seen *seen, const uint16_t *starts)
+{
+    size_t k = seen->demands;
+    uint8_t weights[LIGHTPLAN_DEMANDS + 1];
+    for (unsigned turn = 0; turn < 6; turn++) {
+        for (size_t i = 0; i <= k; i++)
+            weights[i] = (uint8_t)(turn < 3 ? turn : (i * 5 + turn) % 7 / turn);
+        for (unsigned a = 0; a <= 3; a++)
+            hold_certificate(seen, starts, weights, k, a);
+        hold_certificate(seen, starts, weights, k + 1, 1 + turn % 2);
+    }
+    hold_certificate(seen, starts, weights, k, 255);
+    if (k == 0)
+        return;
+    hold_certificate(seen, starts, weights, k - 1, 1);
+    hold_uncertified(certify_with(seen, starts, k - 1, weights, 0, 0), LIGHTPLAN_NO_ROW, k - 1, LIGHTPLAN_OF_PLAN);
+    memset(weights, 0, sizeof weights);
+    hold_certificate(seen, starts, weights, k, 2);
+    weights[k / 2] = 3;
+    hold_certificate(seen, starts, weights, k, 2);
+    weights[k / 2] = 255;
+    hold_certificate(seen, starts, weights, k, 1);
+}
+
 /* an allowed plan is accepted with its end and the bound, whatever stands behind its starts; one start more, or less, or moved up is not */
 static void hold_allowed(const struct seen *seen, const uint16_t *allowed)
 {
@@ -174,6 +254,8 @@ static void hold_allowed(const struct seen *seen, const uint16_t *allowed)
         hold_plan(verdict, LIGHTPLAN_ANSWERED, 0);
         HOLD(verdict.end == end_of(seen, allowed) && verdict.bound == seen->bound && seen->bound <= verdict.end);
     }
+    hold_links_certify(seen, starts);
+    hold_certificates(seen, starts);
     if (k == 0)
         return;
     hold_plan(check_starts(seen, starts, k - 1), LIGHTPLAN_NO_ROW, k - 1);
@@ -182,6 +264,7 @@ static void hold_allowed(const struct seen *seen, const uint16_t *allowed)
     hold_plan(check_starts(seen, starts, k), LIGHTPLAN_END_ABOVE, k / 2);
     starts[k / 2] = 65535;
     hold_plan(check_starts(seen, starts, k), LIGHTPLAN_END_ABOVE, k / 2);
+    hold_uncertified(certify_with(seen, starts, k, (const uint8_t *)starts, k, 1), LIGHTPLAN_END_ABOVE, k / 2, LIGHTPLAN_OF_PLAN);
 }
 
 /* ---- lightplan_search */
@@ -492,6 +575,8 @@ static void test_version(void)
 {
     struct lightplan_answer zeros = {0};
     struct lightplan_grouped no_groups = {0};
+    struct lightplan_certified no_certificate = {0};
+    HOLD(no_certificate.outcome != LIGHTPLAN_BEST && no_certificate.outcome != LIGHTPLAN_AT_LEAST);
     HOLD(lightplan_version() == LIGHTPLAN_VERSION);
     HOLD(no_groups.outcome != LIGHTPLAN_GROUPED && no_groups.outcome != LIGHTPLAN_NOTHING_FOUND);
     HOLD(zeros.outcome != LIGHTPLAN_FINISHED && zeros.outcome != LIGHTPLAN_NOTHING_FITS && zeros.outcome != LIGHTPLAN_UNFINISHED &&
@@ -511,6 +596,7 @@ static void test_nothing(void)
     HOLD(grouped.refusal == LIGHTPLAN_WRONG_TAG && grouped.place == 0);
     hold_verdict(lightplan_check(NULL, 0, NULL, 0, NULL, 0), LIGHTPLAN_WRONG_TAG, 0, LIGHTPLAN_OF_REQUEST);
     hold_verdict(lightplan_check_starts(NULL, 0, NULL, 0), LIGHTPLAN_WRONG_TAG, 0, LIGHTPLAN_OF_REQUEST);
+    hold_uncertified(lightplan_certify(NULL, 0, NULL, 0, NULL, 0, 1), LIGHTPLAN_WRONG_TAG, 0, LIGHTPLAN_OF_REQUEST);
 }
 
 /* a band and a link, no demand: nothing lent is enough for every answer */
@@ -529,6 +615,8 @@ static void test_no_demand(void)
     HOLD(grouped.refusal == LIGHTPLAN_GROUPS_OUTSIDE && grouped.place == 1);
     hold_plan(lightplan_check(file, sizeof file, NULL, 0, NULL, 0), LIGHTPLAN_ANSWERED, 0);
     hold_plan(lightplan_check_starts(file, sizeof file, NULL, 0), LIGHTPLAN_ANSWERED, 0);
+    struct lightplan_certified told = lightplan_certify(file, sizeof file, NULL, 0, NULL, 0, 1);
+    HOLD(told.refusal == LIGHTPLAN_ANSWERED && told.outcome == LIGHTPLAN_BEST && told.end == 0 && told.low == 0);
 }
 
 /* the same request in a band of three slots, for which no plan is allowed */
@@ -660,6 +748,37 @@ static void test_rates(void)
     HOLD(told.refusal == LIGHTPLAN_IDENT_USED && told.place == 58);
 }
 
+/* three demands of which any two share a link, and no three share one: the bound is 2, the lowest end 3, and weights prove that */
+static void test_known_certificate(void)
+{
+    static const uint8_t file[50] = {
+        1, 0, 5, 254, 228, 0, 3, 0,
+        2, 0, 2, 0, 1,
+        2, 0, 2, 1, 2,
+        2, 0, 2, 2, 0,
+        3, 0, 6, 0, 10, 0, 1, 0, 1,
+        3, 0, 6, 0, 20, 0, 1, 1, 2,
+        3, 0, 6, 0, 30, 0, 1, 2, 0,
+    };
+    static const uint16_t starts[3] = {0, 1, 2}, clashing[3] = {0, 1, 1};
+    static const uint8_t ones[3] = {1, 1, 1}, twos[3] = {2, 2, 2}, two_of_them[3] = {1, 1, 0}, halves[3] = {1, 2, 1};
+    static const struct {
+        const uint8_t *weights;
+        unsigned a, outcome, low;
+    } known[] = {{ones, 1, LIGHTPLAN_BEST, 3}, {twos, 2, LIGHTPLAN_BEST, 3}, {two_of_them, 1, LIGHTPLAN_AT_LEAST, 2},
+                 {ones, 2, LIGHTPLAN_AT_LEAST, 2}, {halves, 2, LIGHTPLAN_AT_LEAST, 2}};
+    struct lightplan_certified told;
+    for (size_t c = 0; c < sizeof known / sizeof known[0]; c++) {
+        told = lightplan_certify(file, sizeof file, starts, 3, known[c].weights, 3, (uint8_t)known[c].a);
+        HOLD(told.refusal == LIGHTPLAN_ANSWERED && told.place == 0 && told.which == LIGHTPLAN_OF_NOTHING);
+        HOLD(told.outcome == known[c].outcome && told.end == 3 && told.low == known[c].low);
+    }
+    hold_uncertified(lightplan_certify(file, sizeof file, starts, 3, twos, 3, 1), LIGHTPLAN_NO_CERTIFICATE, 0, LIGHTPLAN_OF_CERTIFICATE);
+    hold_uncertified(lightplan_certify(file, sizeof file, starts, 3, halves, 3, 1), LIGHTPLAN_NO_CERTIFICATE, 1, LIGHTPLAN_OF_CERTIFICATE);
+    hold_uncertified(lightplan_certify(file, sizeof file, starts, 3, ones, 2, 1), LIGHTPLAN_NO_CERTIFICATE, 3, LIGHTPLAN_OF_CERTIFICATE);
+    hold_uncertified(lightplan_certify(file, sizeof file, clashing, 3, twos, 2, 0), LIGHTPLAN_CLASH, 2, LIGHTPLAN_OF_PLAN);
+}
+
 /* ---- files */
 
 /* the bytes of a file, lent; 0 where there is no such file */
@@ -694,6 +813,8 @@ static void test_refused(const uint8_t *file, size_t bytes, const struct lightpl
     HOLD(lent_kept(&first_lent, 0));
     hold_verdict(check_starts(&seen, &none, 0), request->refusal, request->place, LIGHTPLAN_OF_REQUEST);
     hold_verdict(check_starts(&seen, &none, 1), request->refusal, request->place, LIGHTPLAN_OF_REQUEST);
+    hold_uncertified(certify_with(&seen, &none, 0, (const uint8_t *)&none, 0, 1), request->refusal, request->place, LIGHTPLAN_OF_REQUEST);
+    hold_uncertified(certify_with(&seen, &none, 1, (const uint8_t *)&none, 2, 0), request->refusal, request->place, LIGHTPLAN_OF_REQUEST);
 }
 
 static void test_file(const char *name)
@@ -736,6 +857,7 @@ int main(int count, char **words)
     test_known_groups();
     test_blocked();
     test_rates();
+    test_known_certificate();
     for (int k = 1; k < count; k++) {
         if (!strstr(words[k], ".request")) {
             fprintf(stderr, "entries: not a request file: %s\n", words[k]);

@@ -200,6 +200,40 @@ void starts_of_rows(const struct seen *seen, const uint8_t *plan, size_t bytes, 
                 starts[k] = (uint16_t)two(plan + at + 5);
 }
 
+/* whether demands i, j and k weigh something each, no two of them share a link, and they weigh more than `a` together; k may be j */
+static int heavy(const struct seen *seen, const uint8_t *weights, unsigned a, size_t i, size_t j, size_t k)
+{
+    const uint64_t *links = seen->links_of;
+    unsigned third = j == k ? 0 : weights[k];
+    if (!weights[i] || !weights[j] || !weights[k] || (links[i] & links[j]) || (links[i] & links[k]))
+        return 0;
+    return (j == k || !(links[j] & links[k])) && weights[i] + weights[j] + third > a;
+}
+
+size_t certificate_fault(const struct seen *seen, const uint8_t *weights, size_t count, unsigned a)
+{
+    if (count != seen->demands || a < 1 || a > 2)
+        return seen->demands;
+    for (size_t i = 0; i < count; i++)
+        if (weights[i] > a)
+            return i;
+    for (size_t i = 0; i < count; i++)
+        for (size_t j = i + 1; j < count; j++)
+            for (size_t k = j; k < count; k++)
+                if (heavy(seen, weights, a, i, j, k))
+                    return i;
+    return NO_PLACE;
+}
+
+uint32_t certificate_end(const struct seen *seen, const uint8_t *weights, unsigned a)
+{
+    uint32_t sum = 0;
+    for (size_t k = 0; k < seen->demands; k++)
+        sum += weights[k] * (seen->widths[k] + seen->guard);
+    sum = sum / a + (sum % a != 0);
+    return sum < seen->guard ? 0 : sum - seen->guard;
+}
+
 unsigned block_fault(int n0, unsigned slots, unsigned guard, unsigned start, unsigned width)
 {
     if (n0 < -400 || n0 > 400 || slots < 1 || slots > 384 || guard > 8)

@@ -47,6 +47,11 @@ void members_of(const struct seen *seen, const uint16_t *groups, size_t count, u
 enum { NO_END = 65535 };
 uint32_t best_of_groups(const struct seen *seen, size_t count, uint16_t *groups, uint16_t *starts);
 
+/* The place at which so many weights are refused as no certificate, NO_PLACE where they are one; and the end that a certificate gives. */
+enum { NO_PLACE = 65535 };
+size_t certificate_fault(const struct seen *seen, const uint8_t *weights, size_t count, unsigned a);
+uint32_t certificate_end(const struct seen *seen, const uint8_t *weights, unsigned a);
+
 /* The number that a block is refused with, or 0. */
 unsigned block_fault(int n0, unsigned slots, unsigned guard, unsigned start, unsigned width);
 

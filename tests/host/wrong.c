@@ -73,6 +73,15 @@ enum fault {
     GROUPS_PLACE,
     GROUPS_BEFORE_ROOM,
     GROUPS_BY_LISTING,
+    CERTIFY_BEST,
+    CERTIFY_END,
+    CERTIFY_LOW,
+    CERTIFY_WHICH,
+    CERTIFY_PLACE,
+    CERTIFY_ACCEPTS,
+    CERTIFY_HALVES,
+    CERTIFY_READS_ON,
+    CERTIFY_BEFORE_THE_PLAN,
     FAULTS
 };
 
@@ -306,6 +315,30 @@ struct lightplan_verdict __wrap_lightplan_check_starts(const uint8_t *file, size
         v.which = LIGHTPLAN_OF_REQUEST;
     v.end += is(STARTS_END) && !v.refusal;
     return v;
+}
+
+struct lightplan_certified __real_lightplan_certify(const uint8_t *, size_t, const uint16_t *, size_t, const uint8_t *, size_t, uint8_t);
+
+struct lightplan_certified __wrap_lightplan_certify(const uint8_t *file, size_t file_bytes, const uint16_t *starts, size_t starts_count,
+                                                    const uint8_t *weights, size_t weights_count, uint8_t a)
+{
+    struct lightplan_certified c = __real_lightplan_certify(file, file_bytes, starts, starts_count, weights, weights_count, a);
+    if (weights_count && is(CERTIFY_READS_ON))
+        looked_at = weights[weights_count];
+    if (c.refusal == LIGHTPLAN_NO_CERTIFICATE && is(CERTIFY_ACCEPTS))
+        c = (struct lightplan_certified){.outcome = LIGHTPLAN_BEST};
+    if (c.refusal && c.which == LIGHTPLAN_OF_PLAN && (a < 1 || a > 2) && is(CERTIFY_BEFORE_THE_PLAN))
+        c = (struct lightplan_certified){.refusal = LIGHTPLAN_NO_CERTIFICATE, .place = starts_count, .which = LIGHTPLAN_OF_CERTIFICATE};
+    c.place += is(CERTIFY_PLACE) && c.refusal;
+    if (c.refusal && is(CERTIFY_WHICH))
+        c.which = LIGHTPLAN_OF_PLAN;
+    if (!c.refusal && is(CERTIFY_BEST))
+        c.outcome = LIGHTPLAN_BEST;
+    if (c.outcome && a == 2 && is(CERTIFY_HALVES))
+        c.low /= 2;
+    c.end += is(CERTIFY_END) && !c.refusal;
+    c.low += is(CERTIFY_LOW) && !c.refusal;
+    return c;
 }
 
 struct lightplan_frequency_of __real_lightplan_frequency(int16_t, uint16_t, uint8_t, uint16_t, uint16_t);

@@ -21,14 +21,14 @@ use Rattle.request.specs.declared.Checked.{Checked}
 use Rattle.request.specs.declared.Checked.the-variants as checked
 use Rattle.request.specs.declared.Request.{Request}
 use Rattle.request.specs.View.{View, view}
-use Rattle.request.specs.Check.{then, must, check}
+use Rattle.request.specs.Check.{then, must}
 use Rattle.request.specs.CheckLaws.{first-sound, next-sound, test-held}
 use Rattle.request.specs.Sharing.{problemOf}
-use Rattle.request.specs.Whole.{Whole}
+use Rattle.request.specs.Whole.{Whole, Counted}
 use Rattle.request.specs.Sound.{SoundRequest}
 use Rattle.request.specs.SoundLaws.{check-sound, whole-counted}
 use Rattle.request.specs.inner.Limits.{Limits}
-use Rattle.request.specs.LimitsLaws.{checked-limits}
+use Rattle.request.specs.LimitsLaws.{sound-limits}
 use Rattle.meeting.specs.Plan.{AllowedPlan, endOfPlan, startAt}
 use Rattle.meeting.specs.PlanLaws.{slots-to-ends}
 use Rattle.meeting.specs.PlanEndLaws.{plan-end-is}
@@ -191,22 +191,25 @@ told-kept v starts weights a end plan sound limits checked.Sound is =
     reaches low proves = subst (λ (e : ℕ). low ≤ e) (plan .ends) (none-own v low starts (plan .acceptable .plan-allowed) proves)
 
 -- of a plan that was refused nothing is said
-after-kept : (q : Request) → Whole q → (starts weights : List ℕ) (a : ℕ) (r : CheckReply) → startsReply (view q) starts ≡ r →
-    Promised (view q) starts (afterPlan (view q) weights a r)
+after-kept : (v : View) → Counted v → (starts weights : List ℕ) (a : ℕ) (r : CheckReply) → startsReply v starts ≡ r →
+    Promised v starts (afterPlan v weights a r)
 unfolding afterPlan certifiedWith Promised
-after-kept q whole starts weights a (Rejected why) is = tt
-after-kept q whole starts weights a (Accepted end) is =
-    let v : View = view q in
-    let checks : check v ≡ checked.Sound = accepted-sound v starts end is in
-    let good = accepted-allowed v (whole-counted q whole) starts end is in
+after-kept v counted starts weights a (Rejected why) is = tt
+after-kept v counted starts weights a (Accepted end) is =
+    let sound : SoundRequest v = check-sound v counted (accepted-sound v starts end is) in
+    let good = accepted-allowed v counted starts end is in
     told-kept v starts weights a end (record { acceptable = good .0; ends = sym (good .1) })
-    (check-sound v (whole-counted q whole) checks) (checked-limits q whole checks) (checkCertificate v weights a) refl
+    sound (sound-limits v counted sound) (checkCertificate v weights a) refl
 
--- a plan and a certificate keep their promise, whatever the request, the starts, the weights and a were
+-- a plan and a certificate keep their promise, whatever is seen, and whatever the starts, the weights and a were
+pub certify-kept : (v : View) → Counted v → (starts weights : List ℕ) (a : ℕ) → Promised v starts (certifyReply v starts weights a)
+unfolding certifyReply
+certify-kept v counted starts weights a = after-kept v counted starts weights a (startsReply v starts) refl
+
+-- so they do of every request
 pub certify-promise : (q : Request) → Whole q → (starts weights : List ℕ) (a : ℕ) →
     Promised (view q) starts (certifyReply (view q) starts weights a)
-unfolding certifyReply
-certify-promise q whole starts weights a = after-kept q whole starts weights a (startsReply (view q) starts) refl
+certify-promise q whole starts weights a = certify-kept (view q) (whole-counted q whole) starts weights a
 
 -- two results that meet the contract are equal
 pub same-certify : (v : View) (starts weights : List ℕ) (a : ℕ) (r r′ : Certified) →

@@ -71,15 +71,9 @@ use Rattle.columns.specs.ColumnsLaws.{
   routes-refused,
   routes-written,
 }
-use Rattle.host.specs.declared.LightplanRequest.{LightplanRequest}
-use Rattle.host.specs.declared.LightplanRoutes.{LightplanRoutes}
-use Rattle.host.specs.declared.LightplanAnswer.{LightplanAnswer}
-use Rattle.host.specs.declared.LightplanGrouped.{LightplanGrouped}
-use Rattle.host.specs.declared.LightplanVerdict.{LightplanVerdict}
-use Rattle.host.specs.declared.LightplanFrequency.{LightplanFrequency}
-use Rattle.search.specs.Reply.{outcomeNumber}
-use Rattle.host.specs.Host.{
-  version,
+use Rattle.told.specs.declared.LightplanRequest.{LightplanRequest}
+use Rattle.told.specs.declared.LightplanRoutes.{LightplanRoutes}
+use Rattle.told.specs.RequestTold.{
   requestRefused,
   requestTold,
   requestAfter,
@@ -91,6 +85,15 @@ use Rattle.host.specs.Host.{
   endsRead,
   hopsRead,
   routesRead,
+}
+use Rattle.told.specs.ToldLaws.{same-request-told, same-routes-told}
+use Rattle.host.specs.declared.LightplanAnswer.{LightplanAnswer}
+use Rattle.host.specs.declared.LightplanGrouped.{LightplanGrouped}
+use Rattle.host.specs.declared.LightplanVerdict.{LightplanVerdict}
+use Rattle.host.specs.declared.LightplanFrequency.{LightplanFrequency}
+use Rattle.search.specs.Reply.{outcomeNumber}
+use Rattle.host.specs.Host.{
+  version,
   answerRefused,
   searchTold,
   answerEntry,
@@ -124,7 +127,7 @@ same-version r r′ h h′ = h ∙ sym h′
 pub same-request : (file : List ℕ) (lent : DemandBuffers) (r r′ : LightplanRequest) (after after′ : DemandBuffers) →
     r ≡ requestEntry (readFile file) (demandRooms lent) → r′ ≡ requestEntry (readFile file) (demandRooms lent) →
     after ≡ demandsRead (readFile file) lent → after′ ≡ demandsRead (readFile file) lent → (r ≡ r′) × (after ≡ after′)
-same-request file lent r r′ after after′ hr hr′ ha ha′ = (hr ∙ sym hr′, ha ∙ sym ha′)
+same-request = same-request-told
 
 -- two results of `lightplan_read_routes` are equal
 pub same-routes : (file ends hops routes : List ℕ) (r r′ : LightplanRoutes) (e e′ h h′ t t′ : List ℕ) →
@@ -134,7 +137,7 @@ pub same-routes : (file ends hops routes : List ℕ) (r r′ : LightplanRoutes) 
     h ≡ hopsRead (readFile file) ends hops routes → h′ ≡ hopsRead (readFile file) ends hops routes →
     t ≡ routesRead (readFile file) ends hops routes → t′ ≡ routesRead (readFile file) ends hops routes →
     (r ≡ r′) × (e ≡ e′) × (h ≡ h′) × (t ≡ t′)
-same-routes file ends hops routes r r′ e e′ h h′ t t′ hr hr′ he he′ hh hh′ ht ht′ = (hr ∙ sym hr′, he ∙ sym he′, hh ∙ sym hh′, ht ∙ sym ht′)
+same-routes = same-routes-told
 
 -- two results of `lightplan_search` are equal, and leave the same in the buffers
 pub same-answer : (file : List ℕ) (limit : ℕ) (lent : search.Buffers) (r r′ : LightplanAnswer) (after after′ : search.Buffers) →

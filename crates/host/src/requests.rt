@@ -1,22 +1,13 @@
 // A request file read, for programs in C.
-use crate::LightplanRequest;
-use crate::LightplanRoutes;
-use columns::demand_columns;
-use columns::route_columns;
-use meeting::BoundReply;
-use meeting::bound;
-use reading::read_request;
-use refusal::Refusal;
-use request::Checked;
-use request::Request;
-use request::Written;
+use told::LightplanRequest;
+use told::LightplanRoutes;
+use told::request_told;
+use told::routes_told;
 ghost use mathlib.Core.Path.{_≡_};
 ghost use lib.ListN.{length};
-ghost use Rattle.request.specs.View.{view};
 ghost use Rattle.reading.specs.Reading.{readFile};
-ghost use Rattle.meeting.specs.Reply.{boundReply};
 ghost use Rattle.columns.specs.Columns.{lentDemands, demandRooms};
-ghost use Rattle.host.specs.Host.{requestRefused, requestTold, requestEntry, demandsRead, routesRefused, routesEntry, endsRead, hopsRead, routesRead};
+ghost use Rattle.told.specs.RequestTold.{requestEntry, demandsRead, routesEntry, endsRead, hopsRead, routesRead};
 
 // Reads a request file. `idents`, `widths` and `rates` get the ident, the width and the rate of each demand by listing position, a rate of
 // 0 where it asks for a width. The reader's refusals at their offsets come first, then 10 for each buffer.
@@ -32,17 +23,7 @@ pub extern "C" fn lightplan_read(
     ensures widths { λ _. ⌜ now (widths .exit) ≡ demandsRead (readFile (now (file .entry))) (lentDemands (now (idents .entry)) (now (widths .entry)) (now (rates .entry))) .widths ⌝ }
     ensures rates { λ _. ⌜ now (rates .exit) ≡ demandsRead (readFile (now (file .entry))) (lentDemands (now (idents .entry)) (now (widths .entry)) (now (rates .entry))) .rates ⌝ }
 {
-    let reading = read_request(file);
-    let verdict = reading.verdict;
-    let request = reading.request;
-    if let Checked::Refused(why) = verdict {
-        return request_refused(why);
-    }
-    let written = demand_columns(request, idents, widths, rates);
-    if let Written::Refused(why) = written {
-        return request_refused(why);
-    }
-    request_told(request)
+    request_told(file, idents, widths, rates)
 }
 
 // Reads the links and the routes of a request file. `ends` gets the two nodes of each link by its number, `hops` how many links each
@@ -60,69 +41,5 @@ pub extern "C" fn lightplan_read_routes(
     ensures hops { λ _. ⌜ now (hops .exit) ≡ hopsRead (readFile (now (file .entry))) (now (ends .entry)) (now (hops .entry)) (now (routes .entry)) ⌝ }
     ensures routes { λ _. ⌜ now (routes .exit) ≡ routesRead (readFile (now (file .entry))) (now (ends .entry)) (now (hops .entry)) (now (routes .entry)) ⌝ }
 {
-    let reading = read_request(file);
-    let verdict = reading.verdict;
-    let request = reading.request;
-    if let Checked::Refused(why) = verdict {
-        return routes_refused(why);
-    }
-    let written = route_columns(request, ends, hops, routes);
-    match written {
-        Written::Wrote(total) => LightplanRoutes {
-            refusal: 0,
-            place: 0,
-            links: request.link_count,
-            demands: request.demand_count,
-            hops: total,
-        },
-        Written::Refused(why) => routes_refused(why),
-    }
-}
-
-fn request_refused(why: Refusal) -> LightplanRequest
-    ensures { λ r. ⌜ r ≡ requestRefused why ⌝ }
-{
-    LightplanRequest {
-        refusal: why.number(),
-        place: why.place(),
-        n0: 0,
-        slots: 0,
-        guard: 0,
-        links: 0,
-        demands: 0,
-        bound: 0,
-    }
-}
-
-// The numbers of a request and its bound, or the request's own fault.
-fn request_told(request: Request) -> LightplanRequest
-    ensures { λ r. ⌜ r ≡ requestTold (boundReply (view request)) (view request) ⌝ }
-{
-    let reply = bound(request);
-    let band = request.band;
-    match reply {
-        BoundReply::Bound(need) => LightplanRequest {
-            refusal: 0,
-            place: 0,
-            n0: band.n0,
-            slots: band.slots,
-            guard: band.guard,
-            links: request.link_count,
-            demands: request.demand_count,
-            bound: need,
-        },
-        BoundReply::Refused(why) => request_refused(why),
-    }
-}
-
-fn routes_refused(why: Refusal) -> LightplanRoutes
-    ensures { λ r. ⌜ r ≡ routesRefused why ⌝ }
-{
-    LightplanRoutes {
-        refusal: why.number(),
-        place: why.place(),
-        links: 0,
-        demands: 0,
-        hops: 0,
-    }
+    routes_told(file, ends, hops, routes)
 }

@@ -1,6 +1,7 @@
 // The calls, a module for each. A call answers whether the body is one of its own; if so, its line has been printed.
 mod block;
 mod bound;
+mod certificate;
 mod check_request;
 mod check_starts;
 mod first_fit;
@@ -29,6 +30,7 @@ pub(crate) fn make_call(op: u8, body: &[u8]) -> bool {
         0x0B => block::answer(body),
         0x0C => group_orders::answer(body),
         0x20 => place_one::answer(body),
+        0x21 => certificate::answer(body),
         _ => false,
     }
 }

@@ -1,5 +1,6 @@
 //! A list of calls in the making, and the usual arguments a call gets beside its request.
 
+use crate::certify::Offer;
 use crate::frames::Call;
 use crate::one::One;
 use crate::request::{Band, Request};
@@ -73,6 +74,15 @@ impl Cases {
         self.calls.push(Call::PlaceOne { one });
     }
 
+    /// A certificate with as many starts and weights as it has.
+    pub fn certify(&mut self, offer: Offer, request: &Request) {
+        self.certify_in([offer.starts.len(), offer.weights.len()], offer, request);
+    }
+
+    pub fn certify_in(&mut self, counts: [usize; 2], offer: Offer, request: &Request) {
+        self.calls.push(Call::Certify { counts, offer, request: request.clone() });
+    }
+
     /// Every call that takes a request, with arguments that would do for a sound one.
     pub fn every_call(&mut self, request: &Request) {
         let count = request.demand_count.min(200);
@@ -86,6 +96,7 @@ impl Cases {
         self.check(&vec![0; count], request);
         self.read_plan(count, &[], request);
         self.write_plan(7 * count + 1, &vec![0; count], request);
+        self.certify(Offer { starts: vec![0; count], weights: vec![0; count], most: 1 }, request);
     }
 
     /// Every call with the request and also a fault of its own, so that the request's fault comes first.
@@ -102,5 +113,6 @@ impl Cases {
         self.read_plan(0, &[4; 3], request);
         self.write_plan(0, &[], request);
         self.write_plan(0, &vec![0; count], request);
+        self.certify(Offer { starts: vec![], weights: vec![9; 2], most: 3 }, request);
     }
 }

@@ -1,6 +1,7 @@
 //! Cases by chance from a seed: requests, sound and damaged, and calls with them.
 
 use super::cases::Cases;
+use super::certifying::{random_certificate, random_offer};
 use super::damage::{damage_file, damage_request, damage_starts};
 use super::dice::Dice;
 use super::grouping::random_groups;
@@ -26,7 +27,8 @@ pub fn random_cases(seed: u64, count: usize) -> Cases {
     cases
 }
 
-/// Searches of small requests with a limit that lets most of them finish, and now and then as many groups as demands.
+/// Searches of small requests with a limit that lets most of them finish, and now and then as many groups as demands, or a plan
+/// with a certificate.
 pub fn small_searches(seed: u64, count: usize) -> Cases {
     let mut dice = Dice::new(seed);
     let mut cases = Cases::default();
@@ -35,6 +37,11 @@ pub fn small_searches(seed: u64, count: usize) -> Cases {
         if dice.one_in(4) {
             let count = if dice.one_in(4) { dice.between(1, 4) as usize } else { request.demand_count };
             cases.groups(count, &request);
+            continue;
+        }
+        if dice.one_in(3) {
+            let offer = random_offer(&mut dice, &request);
+            cases.certify(offer, &request);
             continue;
         }
         let soon = request.demand_count + dice.below(12);
@@ -46,7 +53,7 @@ pub fn small_searches(seed: u64, count: usize) -> Cases {
 
 fn random_call(cases: &mut Cases, dice: &mut Dice) {
     let request = random_request(dice);
-    match dice.below(20) {
+    match dice.below(22) {
         0 | 1 => random_file(cases, dice, &request),
         2 => cases.sound(&request),
         3 => {
@@ -69,6 +76,7 @@ fn random_call(cases: &mut Cases, dice: &mut Dice) {
         14 => random_frequency(cases, dice),
         15 => random_block(cases, dice),
         16 | 17 => random_groups(cases, dice, &request),
+        18 | 19 => random_certificate(cases, dice, &request),
         _ => cases.one(random_one(dice)),
     }
 }
@@ -326,7 +334,7 @@ fn random_search(cases: &mut Cases, dice: &mut Dice, request: &Request) {
 }
 
 /// Starts that fit where first fit finds some, now and then damaged.
-fn random_starts(dice: &mut Dice, request: &Request) -> Vec<i64> {
+pub fn random_starts(dice: &mut Dice, request: &Request) -> Vec<i64> {
     let order = random_permutation(dice, request.demands.len());
     let mut found = vec![0; request.demands.len()];
     let mut blockers = found.clone();

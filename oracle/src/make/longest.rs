@@ -3,6 +3,8 @@
 use super::cases::Cases;
 use super::ones::packed;
 use super::shapes::{largest, largest_mixed, stack};
+use crate::certify::Offer;
+use crate::frames::OFFERED_HELD;
 use crate::one::One;
 
 const COUNT_MOST: usize = 65_535;
@@ -25,6 +27,8 @@ pub fn longest_cases() -> Cases {
     cases.check(&vec![0; COUNT_MOST], &request);
     cases.read_plan(ROOM_MOST, &vec![4; COUNT_MOST], &request);
     cases.write_plan(ROOM_MOST, &vec![0; COUNT_MOST], &request);
+    let offer = Offer { starts: vec![0; OFFERED_HELD], weights: vec![2; OFFERED_HELD], most: 2 };
+    cases.certify_in([COUNT_MOST; 2], offer, &request);
     longest_accepted(&mut cases);
     cases
 }
@@ -39,5 +43,7 @@ fn longest_accepted(cases: &mut Cases) {
     cases.write_plan(ROOM_MOST, &starts, &request);
     cases.search(200, [ROOM_MOST; 3], &stack(20, 0, &[1; 20]));
     cases.groups_in([ROOM_MOST; 2], 3, &request);
+    let offer = Offer { starts: starts[..OFFERED_HELD].to_vec(), weights: vec![2; 200], most: 2 };
+    cases.certify_in([COUNT_MOST, 200], offer, &request);
     cases.one(One { count: COUNT_MOST, ..packed(200, 300) });
 }

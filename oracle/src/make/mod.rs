@@ -2,6 +2,7 @@
 
 mod blocking;
 mod cases;
+mod certifying;
 mod chance;
 mod damage;
 mod dice;
@@ -35,6 +36,7 @@ pub fn stored() -> Vec<Call> {
     planning::planning_cases(&mut cases);
     grid::grid_cases(&mut cases);
     grouping::grouping_cases(&mut cases);
+    certifying::certifying_cases(&mut cases);
     searching::searching_cases(&mut cases);
     searching::long_cases(&mut cases);
     grouping::long_cases(&mut cases);

@@ -6,6 +6,7 @@ use super::grouping::placements;
 use super::longest::longest_cases;
 use super::ones::packed;
 use super::shapes::{changed, worked};
+use crate::certify::Offer;
 use crate::frames::{call_of, frame_of, framed, next_frame, Call};
 use crate::rates::Asked;
 use crate::request::{Band, Request};
@@ -47,13 +48,14 @@ pub fn damaged(seed: u64, count: usize) -> Vec<Vec<u8>> {
 }
 
 fn unknown_ops() -> Vec<Vec<u8>> {
-    [0x00, 0x0D, 0x1F, 0x21, 0x7F, 0xFF].iter().flat_map(|&op| [framed(op, &[]), framed(op, &[0; 40])]).collect()
+    [0x00, 0x0D, 0x1F, 0x22, 0x7F, 0xFF].iter().flat_map(|&op| [framed(op, &[]), framed(op, &[0; 40])]).collect()
 }
 
 /// A call of each op but the first, whose body can have any length.
 fn one_of_each(request: &Request) -> Vec<Call> {
     let request = request.clone();
     let band = Band::new(-284, 384, 0);
+    let offer = Offer { starts: vec![0, 3, 0], weights: vec![0, 1, 1], most: 1 };
     vec![
         Call::Sound { request: request.clone() },
         Call::WriteRequest { room: 43, request: request.clone() },
@@ -63,7 +65,8 @@ fn one_of_each(request: &Request) -> Vec<Call> {
         Call::Groups { rooms: [4, 3], count: 2, request: request.clone() },
         Call::Check { starts: vec![0, 3, 0], request: request.clone() },
         Call::ReadPlan { room: 3, file: vec![4, 0, 4, 0, 10, 0, 0], request: request.clone() },
-        Call::WritePlan { room: 21, starts: vec![0, 3, 0], request },
+        Call::WritePlan { room: 21, starts: vec![0, 3, 0], request: request.clone() },
+        Call::Certify { counts: [3; 2], offer, request },
         Call::Frequency { band: band.clone(), start: 0, width: 2 },
         Call::Block { band, n: -282, m: 2 },
         Call::PlaceOne { one: packed(3, 20) },
@@ -144,7 +147,7 @@ fn overlong() -> Vec<Vec<u8>> {
     let longest = longest_cases().calls;
     let longer = longest.iter().map(frame_of).filter(|frame| frame[0] != 0x01);
     let mut frames: Vec<Vec<u8>> = longer.map(|frame| framed(frame[0], &[&frame[5..], &[0]].concat())).collect();
-    frames.extend((0x02..=0x0C).chain([0x20]).map(|op| framed(op, &[0; 200_000])));
+    frames.extend((0x02..=0x0C).chain([0x20, 0x21]).map(|op| framed(op, &[0; 200_000])));
     frames
 }
 
@@ -164,7 +167,7 @@ fn damaged_frame(frame: &[u8], dice: &mut Dice) -> Vec<u8> {
     while dice.one_in(2) {
         damage_bytes(&mut body, dice);
     }
-    let other = if dice.one_in(8) { 0x20 } else { dice.below(14) as u8 };
+    let other = if dice.one_in(8) { dice.pick(&[0x20, 0x21]) } else { dice.below(14) as u8 };
     let op = if dice.one_in(10) { other } else { frame[0] };
     framed(op, &body)
 }

@@ -2,7 +2,7 @@
 use mathlib.Core.Path.{_≡_, sym, ap, _∙_}
 use Rattle.request.specs.View.{view}
 use Rattle.reading.specs.Reading.{FileReading, refused, accepted, readFile}
-use Rattle.host.specs.HostLaws.{file-refused, file-accepted, bytes-known}
+use Rattle.told.specs.FileLaws.{file-refused, file-accepted, bytes-known}
 use Rattle.meeting.specs.declared.BoundReply.{BoundReply}
 use Rattle.meeting.specs.Reply.{boundReply}
 use Rattle.plan.specs.declared.CheckReply.{CheckReply}

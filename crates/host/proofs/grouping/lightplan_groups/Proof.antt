@@ -8,7 +8,7 @@ use Rattle.meeting.specs.declared.BoundReply.{BoundReply}
 use Rattle.meeting.specs.Reply.{boundReply}
 use Rattle.groups.specs.declared.GroupsReply.{GroupsReply}
 use Rattle.host.specs.Host.{groupedTold, groupedEntry, startsGrouped, blockersGrouped}
-use Rattle.host.specs.HostLaws.{file-refused, file-accepted, bytes-known}
+use Rattle.told.specs.FileLaws.{file-refused, file-accepted, bytes-known}
 use borrow.Author.Needs.{needs}
 use Rattle.host.proofs.grouping.lightplan_groups.Statement.{statement}
 use Rattle.host.proofs.grouping.lightplan_groups.Tie as tie

@@ -5,7 +5,7 @@ use Rattle.request.specs.View.{view}
 use Rattle.reading.specs.Reading.{FileReading, refused, accepted, readFile}
 use Rattle.search.specs.Reply.{buffersOf, roomsOf}
 use Rattle.host.specs.Host.{searchTold, answerEntry, buffersSearched}
-use Rattle.host.specs.HostLaws.{file-refused, file-accepted, bytes-known}
+use Rattle.told.specs.FileLaws.{file-refused, file-accepted, bytes-known}
 use Rattle.host.proofs.searching.lightplan_search.Statement.{statement}
 use Rattle.host.proofs.searching.lightplan_search.Tie as tie
 

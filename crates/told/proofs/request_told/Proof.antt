@@ -1,14 +1,14 @@
--- `host::requests::lightplan_read` meets its contract. Assumes nothing.
+-- `told::request_told` meets its contract. Assumes nothing.
 use mathlib.Core.Path.{_≡_, sym, ap, _∙_}
 use Rattle.request.specs.View.{view}
 use Rattle.reading.specs.Reading.{FileReading, refused, accepted, readFile}
 use Rattle.columns.specs.Columns.{DemandBuffers, demandRooms}
-use Rattle.host.specs.HostLaws.{file-refused, file-accepted, bytes-known}
+use Rattle.told.specs.FileLaws.{file-refused, file-accepted, bytes-known}
 use Rattle.request.specs.declared.Written.{Written}
-use Rattle.host.specs.Host.{requestAfter, requestEntry, demandsRead}
+use Rattle.told.specs.RequestTold.{requestAfter, requestEntry, demandsRead}
 use borrow.Author.Needs.{needs}
-use Rattle.host.proofs.requests.lightplan_read.Statement.{statement}
-use Rattle.host.proofs.requests.lightplan_read.Tie as tie
+use Rattle.told.proofs.request_told.Statement.{statement}
+use Rattle.told.proofs.request_told.Tie as tie
 
 -- the buffers as they are lent
 abbrev lent : tie.Start → DemandBuffers
@@ -87,8 +87,8 @@ returns-2 c =
 enum-told-2 : tie.Need-enum-told-2
 enum-told-2 c = search needs
 
-request-told-requires : tie.Need-request-told-requires
-request-told-requires c κs = search needs
+numbers-told-requires : tie.Need-numbers-told-requires
+numbers-told-requires c κs = search needs
 
 same-length-4 : tie.Need-same-length-4
 same-length-4 c = search needs
@@ -106,7 +106,7 @@ returns-3 c =
     let v = view (c .before .before .before .before .before .before .before .before .before .before .before .before .before .before .before .before .read-request .result .request) in
     let written = c .before .before .before .before .before .before .before .before .before .demand-columns in
     let read = sym (request-read (c .before .before .before .before .before .before .before .before .before .before .before .before .before)) in (
-      c .request-told .ensures ∙ (ap (λ (w : Written). requestAfter w v) (sym (c .before .enum-told2 .given .1) ∙ written .ensures .0)
+      c .numbers-told .ensures ∙ (ap (λ (w : Written). requestAfter w v) (sym (c .before .enum-told2 .given .1) ∙ written .ensures .0)
           ∙ ap (λ (file : FileReading). requestEntry file (demandRooms (lent start))) read),
       (
         written .ensures .1 .0 ∙ ap (λ (file : FileReading). demandsRead file (lent start) .idents) read,
@@ -117,8 +117,8 @@ returns-3 c =
       ),
     )
 
-pub lightplan-read-spec : {M : Type 1} → statement M
-lightplan-read-spec =
+pub request-told-spec : {M : Type 1} → statement M
+request-told-spec =
     tie.close
     (tie.spec
     read-request-requires
@@ -134,7 +134,7 @@ lightplan-read-spec =
     same-length-3
     returns-2
     enum-told-2
-    request-told-requires
+    numbers-told-requires
     same-length-4
     same-length-5
     same-length-6

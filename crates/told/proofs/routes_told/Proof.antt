@@ -1,14 +1,14 @@
--- `host::requests::lightplan_read_routes` meets its contract. Assumes nothing.
+-- `told::routes_told` meets its contract. Assumes nothing.
 use mathlib.Core.Path.{_≡_, sym, ap, _∙_}
 use lib.ListN.{length}
 use Rattle.request.specs.View.{view}
 use Rattle.reading.specs.Reading.{FileReading, refused, accepted, readFile}
-use Rattle.host.specs.HostLaws.{file-refused, file-accepted, bytes-known}
+use Rattle.told.specs.FileLaws.{file-refused, file-accepted, bytes-known}
 use Rattle.request.specs.declared.Written.{Written}
-use Rattle.host.specs.Host.{routesTold, routesEntry, endsRead, hopsRead, routesRead}
+use Rattle.told.specs.RequestTold.{routesTold, routesEntry, endsRead, hopsRead, routesRead}
 use borrow.Author.Needs.{needs}
-use Rattle.host.proofs.requests.lightplan_read_routes.Statement.{statement}
-use Rattle.host.proofs.requests.lightplan_read_routes.Tie as tie
+use Rattle.told.proofs.routes_told.Statement.{statement}
+use Rattle.told.proofs.routes_told.Tie as tie
 
 -- where the reading is sound, the file is accepted as the request read
 request-read : (c : tie.After-enum-told) → readFile (c .before .before .before .before .before .before .before .before .args .file .now) ≡ accepted (view (c .before .before .before .read-request .result .request))
@@ -113,8 +113,8 @@ returns-3 c =
       ),
     )
 
-pub lightplan-read-routes-spec : {M : Type 1} → statement M
-lightplan-read-routes-spec =
+pub routes-told-spec : {M : Type 1} → statement M
+routes-told-spec =
     tie.close
     (tie.spec
     read-request-requires

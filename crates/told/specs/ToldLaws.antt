@@ -28,10 +28,26 @@ use Rattle.lent.specs.Lent.{over, writeAnswer}
 use Rattle.columns.specs.Columns.{widths, rateAsked, rates, hopCounts, routeLinks, linkEnds, DemandBuffers, demandRooms, demandsOver, checkDemandColumns, checkRouteColumns, demandReply, routeReply}
 use Rattle.columns.specs.ColumnsLaws.{ends-length, demands-sound, demands-written, routes-written}
 use Rattle.columns.specs.WholeLaws.{columns-whole}
-use Rattle.host.specs.declared.LightplanRequest.{LightplanRequest}
-use Rattle.host.specs.declared.LightplanRoutes.{LightplanRoutes}
-use Rattle.host.specs.Host.{requestRefused, requestTold, requestAfter, requestEntry, demandsRead, routesRefused, routesTold, routesEntry, endsRead, hopsRead, routesRead}
-use Rattle.host.specs.FileTold.{Buffers, FileTold, requestOf, listsOf, toldOf, wholeTold}
+use Rattle.told.specs.declared.LightplanRequest.{LightplanRequest}
+use Rattle.told.specs.declared.LightplanRoutes.{LightplanRoutes}
+use Rattle.told.specs.RequestTold.{requestRefused, requestTold, requestAfter, requestEntry, demandsRead, routesRefused, routesTold, routesEntry, endsRead, hopsRead, routesRead}
+use Rattle.told.specs.FileTold.{Buffers, FileTold, requestOf, listsOf, toldOf, wholeTold}
+
+-- two results of `request_told` are equal, and leave the same in the buffers
+pub same-request-told : (file : List ℕ) (lent : DemandBuffers) (r r′ : LightplanRequest) (after after′ : DemandBuffers) →
+    r ≡ requestEntry (readFile file) (demandRooms lent) → r′ ≡ requestEntry (readFile file) (demandRooms lent) →
+    after ≡ demandsRead (readFile file) lent → after′ ≡ demandsRead (readFile file) lent → (r ≡ r′) × (after ≡ after′)
+same-request-told file lent r r′ after after′ hr hr′ ha ha′ = (hr ∙ sym hr′, ha ∙ sym ha′)
+
+-- two results of `routes_told` are equal
+pub same-routes-told : (file ends hops routes : List ℕ) (r r′ : LightplanRoutes) (e e′ h h′ t t′ : List ℕ) →
+    r ≡ routesEntry (readFile file) (length ends) (length hops) (length routes) →
+    r′ ≡ routesEntry (readFile file) (length ends) (length hops) (length routes) →
+    e ≡ endsRead (readFile file) ends hops routes → e′ ≡ endsRead (readFile file) ends hops routes →
+    h ≡ hopsRead (readFile file) ends hops routes → h′ ≡ hopsRead (readFile file) ends hops routes →
+    t ≡ routesRead (readFile file) ends hops routes → t′ ≡ routesRead (readFile file) ends hops routes →
+    (r ≡ r′) × (e ≡ e′) × (h ≡ h′) × (t ≡ t′)
+same-routes-told file ends hops routes r r′ e e′ h h′ t t′ hr hr′ he he′ hh hh′ ht ht′ = (hr ∙ sym hr′, he ∙ sym he′, hh ∙ sym hh′, ht ∙ sym ht′)
 
 -- the front of a buffer is the column that was written there
 front : (column buffer : List ℕ) (n : ℕ) → length column ≡ n → take n (over column buffer) ≡ column

@@ -1,8 +1,8 @@
--- `host::requests::routes_refused` meets its contract. Assumes nothing.
-use Rattle.host.specs.Host.{routesRefused}
+-- `told::routes_refused` meets its contract. Assumes nothing.
+use Rattle.told.specs.RequestTold.{routesRefused}
 use borrow.Author.Needs.{needs}
-use Rattle.host.proofs.requests.routes_refused.Statement.{statement}
-use Rattle.host.proofs.requests.routes_refused.Tie as tie
+use Rattle.told.proofs.routes_refused.Statement.{statement}
+use Rattle.told.proofs.routes_refused.Tie as tie
 
 number-requires : tie.Need-number-requires
 number-requires c κs = search needs

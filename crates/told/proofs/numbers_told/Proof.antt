@@ -1,14 +1,14 @@
--- `host::requests::request_told` meets its contract. Assumes nothing.
+-- `told::numbers_told` meets its contract. Assumes nothing.
 use mathlib.Core.Path.{sym, ap, _∙_}
 use mir.Syntax.{w16}
 use mir.Val.{SFits}
 use mir.Facts.{toZ-ofZ}
 use Rattle.request.specs.View.{view}
 use Rattle.meeting.specs.declared.BoundReply.{BoundReply}
-use Rattle.host.specs.Host.{requestTold}
+use Rattle.told.specs.RequestTold.{requestTold}
 use borrow.Author.Needs.{needs}
-use Rattle.host.proofs.requests.request_told.Statement.{statement}
-use Rattle.host.proofs.requests.request_told.Tie as tie
+use Rattle.told.proofs.numbers_told.Statement.{statement}
+use Rattle.told.proofs.numbers_told.Tie as tie
 
 bound-requires : tie.Need-bound-requires
 bound-requires c κs = search needs
@@ -35,8 +35,8 @@ returns-2 c =
     let v = view (c .before .before .before .before .before .before .args .request) in
     c .request-refused .ensures ∙ ap (λ (b : BoundReply). requestTold b v) (sym (c .before .before .reply2 .given .1) ∙ c .before .before .before .before .before .bound .ensures)
 
-pub request-told-spec : {M : Type 1} → statement M
-request-told-spec =
+pub numbers-told-spec : {M : Type 1} → statement M
+numbers-told-spec =
     tie.close
     (tie.spec
     bound-requires

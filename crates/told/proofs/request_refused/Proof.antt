@@ -1,8 +1,8 @@
--- `host::requests::request_refused` meets its contract. Assumes nothing.
-use Rattle.host.specs.Host.{requestRefused}
+-- `told::request_refused` meets its contract. Assumes nothing.
+use Rattle.told.specs.RequestTold.{requestRefused}
 use borrow.Author.Needs.{needs}
-use Rattle.host.proofs.requests.request_refused.Statement.{statement}
-use Rattle.host.proofs.requests.request_refused.Tie as tie
+use Rattle.told.proofs.request_refused.Statement.{statement}
+use Rattle.told.proofs.request_refused.Tie as tie
 
 number-requires : tie.Need-number-requires
 number-requires c κs = search needs

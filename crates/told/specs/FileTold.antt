@@ -9,9 +9,9 @@ use Rattle.reading.specs.Reading.{FileReading}
 use Rattle.meeting.specs.declared.BoundReply.the-variants as bound-reply
 use Rattle.meeting.specs.Bound.{boundOf}
 use Rattle.columns.specs.Columns.{widths, rates, hopCounts, routeLinks, linkEnds, DemandBuffers, demandRooms}
-use Rattle.host.specs.declared.LightplanRequest.{LightplanRequest}
-use Rattle.host.specs.declared.LightplanRoutes.{LightplanRoutes}
-use Rattle.host.specs.Host.{requestTold, requestEntry, demandsRead, routesTold, routesEntry, endsRead, hopsRead, routesRead}
+use Rattle.told.specs.declared.LightplanRequest.{LightplanRequest}
+use Rattle.told.specs.declared.LightplanRoutes.{LightplanRoutes}
+use Rattle.told.specs.RequestTold.{requestTold, requestEntry, demandsRead, routesTold, routesEntry, endsRead, hopsRead, routesRead}
 
 -- the buffers that are lent to the two calls, with what they hold: those for the demands, and those for the links and the routes
 pub record Buffers : Type 0 where
