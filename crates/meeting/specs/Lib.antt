@@ -5,6 +5,7 @@ pub mod FillingLaws
 pub mod Row
 pub mod AskedLaws
 pub mod MeetingLaws
+pub mod WordLaws
 pub mod Bound
 pub mod NeedLaws
 pub mod PlanEndLaws

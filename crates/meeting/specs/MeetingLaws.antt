@@ -74,20 +74,11 @@ unfolding has someLink
 has-some x [] = refl
 has-some x (y ∷ l) = rw (has-some x l)
 
--- marks of a route are met by the routes that share a link with it
-share-marked : (route : List ℕ) (marks : List Bool) → MarksOf 256 route marks →
-    (l : List ℕ) → ((p : ℕ) → p < length l → getD l p 0 < 256) → someLink (markedIn marks) l ≡ shareLink l route
+-- two routes share a link when some link of the one stands in the other
+pub share-some : (l route : List ℕ) → someLink (λ a. has a route) l ≡ shareLink l route
 unfolding shareLink someLink
-share-marked route marks known [] low = refl
-share-marked route marks known (a ∷ l) low =
-    rw (known .marked a (low 0 (omega arith)), share-marked route marks known l (λ p h. low (suc p) (omega arith)))
-
--- so are those of a demand's array
-pub share-route : (route : List ℕ) (marks : List Bool) → MarksOf 256 route marks → (links : List ℕ) (hops : ℕ) →
-    ((p : ℕ) → getD links p 0 < 256) → someLink (markedIn marks) (take hops links) ≡ shareLink (take hops links) route
-share-route route marks known links hops low =
-    share-marked route marks known (take hops links)
-    (λ p h. rw (getD-take hops links p 0 (omega (arith, length-take hops links))) (low p))
+share-some [] route = refl
+share-some (a ∷ l) route = rw (share-some l route)
 
 -- one more entry
 pub has-append : (x : ℕ) (l : List ℕ) (y : ℕ) → has x (l ++ (y ∷ [])) ≡ (has x l || eqb x y)
@@ -96,7 +87,7 @@ has-append x [] y = or-false (eqb x y)
 has-append x (z ∷ l) y = rw (has-append x l y) (sym (or-assoc (eqb x z) (has x l) (eqb x y)))
 
 -- a number stands in the first p + 1 entries when it stands in the first p, or at p
-has-take : (x : ℕ) (l : List ℕ) (p : ℕ) → p < length l → has x (take (p + 1) l) ≡ (has x (take p l) || eqb x (getD l p 0))
+pub has-take : (x : ℕ) (l : List ℕ) (p : ℕ) → p < length l → has x (take (p + 1) l) ≡ (has x (take p l) || eqb x (getD l p 0))
 has-take x l p h = rw (add-one, take-suc l p 0) (has-append x (take p l) (getD l p 0))
 
 -- nothing is marked for no entries

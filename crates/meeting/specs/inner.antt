@@ -2,3 +2,4 @@
 pub mod Filling
 pub mod Meeting
 pub mod Need
+pub mod Word

@@ -1,13 +1,12 @@
-// Routes: the first entries of a demand's array, and a route as marks, one for each link number that stands in it.
+// Routes: the first entries of a demand's array, and a route as one word, with a bit for each link that stands in it.
 use request::Demand;
 use request::Request;
 ghost use mathlib.Core.Path.{_≡_};
-ghost use mathlib.Core.List.{List};
-ghost use Prim.Native.Nat.{ℕ};
 ghost use Rattle.request.specs.View.{viewDemand};
 ghost use Rattle.request.specs.Check.{has};
 ghost use Rattle.request.specs.Sharing.{shareLink};
-ghost use Rattle.meeting.specs.inner.Meeting.{RouteLength, MarksOf};
+ghost use Rattle.meeting.specs.inner.Meeting.{RouteLength};
+ghost use Rattle.meeting.specs.inner.Word.{WordOf, allLow, linkBit};
 
 // How many links of a demand's array are its route.
 fn route_length(demand: Demand) -> usize
@@ -21,32 +20,53 @@ fn route_length(demand: Demand) -> usize
     }
 }
 
-// Which link numbers stand in a demand's route.
-pub(crate) fn route_marks(demand: Demand) -> [bool; 256]
-    ensures { λ r. ⌜ MarksOf 256 (viewDemand demand .route) r ⌝ }
+// The bit of a link in a word: a link of 64 or more has none.
+fn link_bit(link: u8) -> u64
+    ensures { λ r. ⌜ r ≡ linkBit link ⌝ }
 {
-    let mut marks = [false; 256];
-    let hops = route_length(demand);
-    let links = demand.links;
-    let mut p: usize = 0;
-    while p < hops {
-        let link = links[p] as usize;
-        marks[link] = true;
-        p += 1;
-    }
-    marks
+    if link < 64 { 1u64 << link } else { 0 }
 }
 
-// Whether a demand's route shares a link with the route that the marks are of.
-pub(crate) fn route_marked(marks: &[bool; 256], demand: Demand) -> bool
-    ensures { λ r. ⌜ ((route : List ℕ) → MarksOf 256 route (now (marks .entry)) → r ≡ shareLink (viewDemand demand .route) route) ⌝ }
+// A demand's route as one word: bit k is set where link k stands in it. Links of 64 or more, which no sound route has, leave no trace.
+pub(crate) fn route_word(demand: Demand) -> u64
+    ensures { λ r. ⌜ WordOf (viewDemand demand .route) r ⌝ }
+{
+    let hops = route_length(demand);
+    let links = demand.links;
+    let mut word: u64 = 0;
+    let mut p: usize = 0;
+    while p < hops {
+        word |= link_bit(links[p]);
+        p += 1;
+    }
+    word
+}
+
+// Whether a demand's word tells its whole route: all its links are below 64.
+pub(crate) fn in_word(demand: Demand) -> bool
+    ensures { λ r. ⌜ r ≡ allLow (viewDemand demand .route) ⌝ }
 {
     let hops = route_length(demand);
     let links = demand.links;
     let mut p: usize = 0;
     while p < hops {
-        let link = links[p] as usize;
-        if marks[link] {
+        if 64 <= links[p] {
+            return false;
+        }
+        p += 1;
+    }
+    true
+}
+
+// Whether two demands share a link, link by link: for a route that no word tells.
+fn share_by_link(demand: Demand, other: Demand) -> bool
+    ensures { λ r. ⌜ r ≡ shareLink (viewDemand demand .route) (viewDemand other .route) ⌝ }
+{
+    let hops = route_length(demand);
+    let links = demand.links;
+    let mut p: usize = 0;
+    while p < hops {
+        if on_link(other, links[p] as usize) {
             return true;
         }
         p += 1;
@@ -54,12 +74,22 @@ pub(crate) fn route_marked(marks: &[bool; 256], demand: Demand) -> bool
     false
 }
 
+// Whether a demand shares a link with another, of which the word is known and whether it tells the whole route.
+pub(crate) fn share_word(demand: Demand, other: Demand, word: u64, whole: bool) -> bool
+    requires { ⌜ WordOf (viewDemand other .route) word × (whole ≡ allLow (viewDemand other .route)) ⌝ }
+    ensures { λ r. ⌜ r ≡ shareLink (viewDemand demand .route) (viewDemand other .route) ⌝ }
+{
+    if whole {
+        return route_word(demand) & word != 0;
+    }
+    share_by_link(demand, other)
+}
+
 // Whether two demands share a link.
 pub fn share_link(demand: Demand, other: Demand) -> bool
     ensures { λ r. ⌜ r ≡ shareLink (viewDemand demand .route) (viewDemand other .route) ⌝ }
 {
-    let marks = route_marks(other);
-    route_marked(&marks, demand)
+    share_word(demand, other, route_word(other), in_word(other))
 }
 
 // Whether a link stands in a demand's route.

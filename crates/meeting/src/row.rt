@@ -1,6 +1,7 @@
 // Which demands meet: those that share a link.
-use crate::route::route_marked;
-use crate::route::route_marks;
+use crate::route::in_word;
+use crate::route::route_word;
+use crate::route::share_word;
 use request::Demand;
 use request::Request;
 ghost use mathlib.Core.Path.{_≡_};
@@ -21,8 +22,8 @@ pub(crate) fn demands_asked(count: usize) -> usize
     }
 }
 
-// Which of the first `count` demands share a link with demand i: none where there is no demand i. Its route is marked once, so that
-// each other route is gone through once.
+// Which of the first `count` demands share a link with demand i: none where there is no demand i. Its word is made once, so that each
+// other route is gone through once.
 pub fn meeting_row(demands: [Demand; 200], count: usize, i: usize) -> [bool; 200]
     ensures { λ r. ⌜ r ≡ meetingRow (map viewDemand (take count demands)) i ⌝ }
 {
@@ -32,11 +33,12 @@ pub fn meeting_row(demands: [Demand; 200], count: usize, i: usize) -> [bool; 200
         return row;
     }
     let demand = demands[i];
-    let marks = route_marks(demand);
+    let word = route_word(demand);
+    let whole = in_word(demand);
     let mut j: usize = 0;
     while j < asked {
         let other = demands[j];
-        row[j] = route_marked(&marks, other);
+        row[j] = share_word(other, demand, word, whole);
         j += 1;
     }
     row
