@@ -6,7 +6,7 @@
 #include <stdlib.h>
 #include <string.h>
 
-enum { REQUESTS = 8, TIMES = 5, NODES = 4, EDGE = -284, SLOTS = 384, GUARD = 1 };
+enum { REQUESTS = 8, TIMES = 5, NODES = 5, EDGE = -284, SLOTS = 384, GUARD = 1 };
 
 struct walker {
     const char *name;
@@ -22,14 +22,15 @@ static const struct walker walkers[] = {
 
 enum { WALKERS = sizeof walkers / sizeof walkers[0] };
 
-/* three links of a network, each beginning where the one before ends, none twice */
+/* three links of a network, each beginning where the one before ends, along four nodes of which no two are the same */
 static void draw_route(int links, const int *from, const int *to, int *route)
 {
     for (;;) {
         for (int k = 0; k < 3; k++)
             route[k] = below(links);
         int joined = to[route[0]] == from[route[1]] && to[route[1]] == from[route[2]];
-        if (joined && route[0] != route[1] && route[1] != route[2] && route[0] != route[2])
+        int first = from[route[0]], second = to[route[0]], third = to[route[1]], last = to[route[2]];
+        if (joined && first != third && first != last && second != last)
             return;
     }
 }
@@ -57,7 +58,7 @@ static void weigh(struct task *task, int links, int route[MOST][3])
                 task->meets[i][j] |= route[i][a / 3] == route[j][a % 3];
 }
 
-/* 8 to 12 links, routes of three links, widths of 1, 1, 2, 8 and 20 */
+/* 8 to 12 links, the first of them round all nodes, so that there are routes to draw; routes of three links, widths of 1, 1, 2, 8 and 20 */
 static void draw(struct task *task, int count, uint32_t limit)
 {
     static const int widths[5] = {1, 1, 2, 8, 20};
@@ -69,7 +70,7 @@ static void draw(struct task *task, int count, uint32_t limit)
     add(task, 1, GUARD);
     for (int l = 0; l < links; l++) {
         from[l] = l % NODES;
-        to[l] = (from[l] + 1 + below(NODES - 1)) % NODES;
+        to[l] = (from[l] + 1 + (l < NODES ? 0 : below(NODES - 1))) % NODES;
         add(task, 3, 0x020002);
         add(task, 1, from[l]);
         add(task, 1, to[l]);

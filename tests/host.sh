@@ -124,6 +124,8 @@ searches() {
     says 0 'Not known after 14 steps whether this is the best there is: a plan may end lower, though none below 2.' search examples/T.request 14
     says 1 'Nothing fits, proved: the search accounted for every order of the demands, and no plan ends within 2 slots.' search examples/tight.request
     blocked ''
+    says 1 "The request file is refused: a demand's route breaks, meets a node twice, or has a link that is not listed or stands in it twice. Place 31 is the byte, counted from 0, where that field begins." search examples/ring.request
+    begins 'refused 7 31'
     { head -c 5 examples/R.request; printf '\0\3'; tail -c +8 examples/R.request; } >"$work/narrow"
     says 1 'Nothing fits, proved: the fullest link needs 4 slots, and the band has 3.' search "$work/narrow" 0
     says 1 'The request file is refused: it has more than the 20 demands that can be searched. Place 91 is how many it has.' search examples/nsfnet91.request

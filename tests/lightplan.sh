@@ -113,6 +113,18 @@ triangle() {
     done
 }
 
+# Links round a triangle, one straight back and one on from where it closes; a demand on the first link, and one on these. around LINK..
+around() {
+    band 384 0
+    link 0 1
+    link 1 2
+    link 2 0
+    link 1 0
+    link 0 3
+    demand 1 1 0
+    demand 2 1 "$@"
+}
+
 worked 384 >"$work/R"
 expect R 'finished end 4 bound 4 steps 5 reached 2 ruled 0' '10 0 2 -282 191337500' '20 3 4 -277 191368750' '30 0 3 -281 191343750'
 worked 3 >"$work/narrow"
@@ -127,6 +139,16 @@ alike 1 >"$work/one"
 expect one 'finished end 1 bound 1 steps 1 reached 1 ruled 0' '65535 0 1 -283 191331250'
 alike 21 >"$work/twenty-one"
 expect twenty-one 'refused 11 21'
+around 0 1 >"$work/path"
+expect path 'finished end 2 bound 2 steps 2 reached 1 ruled 0' '1 0 1 -283 191331250' '2 1 2 -281 191343750'
+around 1 2 4 >"$work/through-a-start"
+expect through-a-start 'finished end 1 bound 1 steps 2 reached 1 ruled 0' '1 0 1 -283 191331250' '2 0 1 -283 191331250'
+around 0 1 2 >"$work/ring"
+expect ring 'refused 7 41'
+around 0 3 >"$work/back"
+expect back 'refused 7 41'
+around 0 1 2 4 >"$work/through-its-start"
+expect through-its-start 'refused 7 41'
 largest >"$work/largest"
 expect largest 'refused 11 200'
 { largest; bytes 0; } >"$work/one-byte-more"

@@ -71,7 +71,8 @@ enum lightplan_refusal {
     LIGHTPLAN_BAND_OUTSIDE = 4,       /* a number of the band is out of its range; place: offset, in lightplan_frequency 0 */
     LIGHTPLAN_BAD_LINK = 5,           /* a link beyond the 64th, or one that leads back to its own node; place: offset */
     LIGHTPLAN_TOO_MANY_DEMANDS = 6,   /* a 201st demand; place: offset */
-    LIGHTPLAN_BAD_ROUTE = 7,          /* a route that breaks, or has a link that is not listed or stands in it twice; place: offset */
+    LIGHTPLAN_BAD_ROUTE = 7,          /* a route that breaks, meets a node twice, or has a link that is not listed or stands in it twice;
+                                         place: offset */
     LIGHTPLAN_IDENT_USED = 8,         /* an ident that an earlier demand has; place: offset */
     LIGHTPLAN_BAD_WIDTH = 9,          /* a width of 0 or above the slot count, or a rate that takes more slots than it; place: offset, in
                                          lightplan_frequency 0 */

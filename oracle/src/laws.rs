@@ -6,6 +6,7 @@ use crate::certificate_laws::certificate_holds;
 use crate::frames::Call;
 use crate::frequency::{to_block, to_frequency};
 use crate::group_laws::groups_hold;
+use crate::path_laws::{paths_hold, read_paths_hold};
 use crate::placing::first_fit;
 use crate::plan::{check_starts, plan_bytes};
 use crate::plan_file::read_plan;
@@ -35,17 +36,23 @@ pub fn check(calls: &[Call]) -> bool {
     broken == 0 && held > 0
 }
 
-/// Whether the call's answer keeps its laws; `None` for a refusal other than 13 and 30 or a call without one.
+/// Whether the call's answer keeps its laws; `None` for a refusal other than 7, 13 and 30 or a call without one.
 pub fn law(call: &Call, rules: &Rules) -> Option<bool> {
-    match (own_law(call, rules), same_by_width(call, rules)) {
-        (Some(own), Some(same)) => Some(own && same),
-        (own, same) => own.or(same),
+    both(own_law(call, rules), same_by_width(call, rules))
+}
+
+/// Both laws, where both speak of the answer.
+fn both(one: Option<bool>, other: Option<bool>) -> Option<bool> {
+    match (one, other) {
+        (Some(one), Some(other)) => Some(one && other),
+        (one, other) => one.or(other),
     }
 }
 
 fn own_law(call: &Call, rules: &Rules) -> Option<bool> {
     match call {
-        Call::ReadRequest { file } => one_encoding(file, rules),
+        Call::ReadRequest { file } => both(one_encoding(file, rules), read_paths_hold(file, rules)),
+        Call::Sound { request } => paths_hold(request, rules),
         Call::WriteRequest { request, .. } => one_meaning(request, rules),
         Call::FirstFit { order, request, .. } => first_fit_law(request, order, rules),
         Call::Search { limit, request, .. } => search_law(request, *limit, rules),

@@ -23,6 +23,7 @@ pub mod one;
 pub mod orders;
 pub mod paint;
 pub mod pairs;
+pub mod path_laws;
 pub mod placing;
 pub mod plan;
 pub mod plan_file;

@@ -170,7 +170,8 @@ fn link_refused(field: &Field, reading: &Reading, rules: &Rules) -> bool {
 
 fn demand_refused(number: u8, field: &Field, reading: &Reading, rules: &Rules) -> bool {
     let request = &reading.request;
-    demand_fault(number, request, request.demands.len(), Some(&demand_of(field)), rules)
+    let rules = rules.instead(Slip::NodeTwiceInMemoryOnly, Slip::LinksComparedOnly);
+    demand_fault(number, request, request.demands.len(), Some(&demand_of(field)), &rules)
 }
 
 fn take_field(field: &Field, reading: &mut Reading, rules: &Rules) {

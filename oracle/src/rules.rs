@@ -2,6 +2,7 @@
 //! variant changes one limit, one check order, one row of the table, or has one slip.
 
 use crate::slips::Slip;
+use std::borrow::Cow;
 
 /// In a check list: the request given in memory is tested.
 pub const REQUEST: u8 = 0;
@@ -76,6 +77,14 @@ impl Rules {
 
     pub fn slips(&self, slip: Slip) -> bool {
         self.slip == slip
+    }
+
+    /// The same rules, but with another slip where this one is theirs: for a slip that shows in some calls only.
+    pub fn instead(&self, slip: Slip, other: Slip) -> Cow<'_, Rules> {
+        if self.slips(slip) {
+            return Cow::Owned(Rules { slip: other, ..self.clone() });
+        }
+        Cow::Borrowed(self)
     }
 }
 

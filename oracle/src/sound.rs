@@ -80,6 +80,7 @@ fn test_demands(request: &Request, rules: &Rules) -> Result<(), Refusal> {
 }
 
 fn test_demand(request: &Request, position: usize, rules: &Rules) -> Result<(), Refusal> {
+    let rules = &*rules.instead(Slip::NodeTwiceInFilesOnly, Slip::LinksComparedOnly);
     for &number in &rules.checks.memory_demand {
         if demand_fault(number, request, position, request.demands.get(position), rules) {
             return refuse(number, memory_place(number, request, position, rules));
@@ -112,7 +113,10 @@ pub fn demand_fault(number: u8, request: &Request, position: usize, demand: Opti
         21 => rate_fault(&request.band, demand.asked, rules),
         9 => asked_fault(&request.band, demand.asked, rules),
         3 => demand.hops < rules.limits.hops_least || demand.hops > rules.limits.hops_most,
-        _ => route_fault(request, &demand.route, rules),
+        _ => {
+            route_fault(request, &demand.route, rules)
+                || met_before(&request.demands[..position], demand, request, rules)
+        }
     }
 }
 
@@ -169,12 +173,19 @@ pub fn width_fault(band: &Band, width: i64, rules: &Rules) -> bool {
     width < rules.limits.width_least || width > most
 }
 
-/// A route that breaks, or has a link that is not listed or stands in it twice.
+/// A route that breaks, has a link that is not listed or stands in it twice, or meets a node twice.
 fn route_fault(request: &Request, route: &[usize], rules: &Rules) -> bool {
     (unlisted(request, route) && !rules.slips(Slip::UnlistedAllowed))
         || (twice(route) && !rules.slips(Slip::TwiceAllowed))
         || broken(request, route, rules)
-        || (rules.slips(Slip::NodeTwiceRefused) && node_twice(request, route))
+        || node_twice(&nodes_of(request, route), rules)
+}
+
+/// Whether an earlier demand meets one of the nodes, which is no fault.
+fn met_before(before: &[Demand], demand: &Demand, request: &Request, rules: &Rules) -> bool {
+    let nodes = nodes_of(request, &demand.route);
+    let meets = |other: &Demand| nodes_of(request, &other.route).iter().any(|node| nodes.contains(node));
+    rules.slips(Slip::NodesOverAllRoutes) && before.iter().any(meets)
 }
 
 fn unlisted(request: &Request, route: &[usize]) -> bool {
@@ -201,9 +212,36 @@ fn joined(one: (u8, u8), next: (u8, u8), rules: &Rules) -> bool {
     }
 }
 
-fn node_twice(request: &Request, route: &[usize]) -> bool {
-    let ends: Vec<u8> = route.iter().filter_map(|&link| request.links.get(link)).map(|link| link.1).collect();
+/// The nodes that a route meets, first and last included. Unlisted links are not looked at here.
+pub fn nodes_of(request: &Request, route: &[usize]) -> Vec<u8> {
+    let ends = route.iter().filter_map(|&link| request.links.get(link)).map(|link| link.1);
     let first = route.first().and_then(|&link| request.links.get(link)).map(|link| link.0);
-    let nodes: Vec<u8> = first.into_iter().chain(ends).collect();
-    (0..nodes.len()).any(|at| nodes[..at].contains(&nodes[at]))
+    first.into_iter().chain(ends).collect()
+}
+
+/// Whether two of a route's nodes are the same. Every two are compared.
+fn node_twice(nodes: &[u8], rules: &Rules) -> bool {
+    let last = nodes.len().saturating_sub(1);
+    let equal = |one: usize, other: usize| same_node(nodes[one], nodes[other], rules);
+    let compared = |one: usize, other: usize| match rules.slip {
+        Slip::TwiceAllowed | Slip::LinksComparedOnly => false,
+        Slip::ClosedRouteAllowed => (one, other) != (0, last),
+        Slip::ClosedRouteOnlyRefused => (one, other) == (0, last),
+        Slip::FirstNodeUncompared => one > 0,
+        Slip::LastNodeUncompared => other < last,
+        Slip::InnerNodesUncompared => one == 0 || other == last,
+        Slip::NearNodesCompared => other == one + 2,
+        Slip::FirstNodesCompared => other < 32,
+        _ => true,
+    };
+    (0..nodes.len()).any(|other| (0..other).any(|one| equal(one, other) && compared(one, other)))
+}
+
+fn same_node(one: u8, other: u8, rules: &Rules) -> bool {
+    match rules.slip {
+        Slip::NodesBySixBits => one % 64 == other % 64,
+        Slip::NodesBySevenBits => one % 128 == other % 128,
+        Slip::HighNodesUncompared => one == other && one < 128,
+        _ => one == other,
+    }
 }

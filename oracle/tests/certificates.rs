@@ -192,7 +192,7 @@ fn certificate_slips() -> Vec<Slip> {
 
 #[test]
 fn certificates_show_every_slip_about_them() {
-    for calls in [stored(), random(1, 12_000)] {
+    for calls in [stored(), random(1, 25_000)] {
         let answered = Answered::of(0x21, &calls);
         for slip in certificate_slips() {
             assert!(answered.differ_under(Rules { slip, ..Rules::right() }), "{slip:?} is not shown");

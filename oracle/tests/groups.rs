@@ -219,7 +219,7 @@ fn group_slips() -> Vec<Slip> {
 
 #[test]
 fn groups_show_every_slip_about_them() {
-    for calls in [stored(), random(1, 8_000)] {
+    for calls in [stored(), random(1, 12_000)] {
         let answered = Answered::of(0x0C, &calls);
         for slip in group_slips() {
             assert!(answered.differ_under(Rules { slip, ..Rules::right() }), "{slip:?} is not shown");

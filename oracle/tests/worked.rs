@@ -303,7 +303,7 @@ fn blocker_slips() -> Vec<(Slip, Vec<u8>)> {
 
 #[test]
 fn each_call_shows_every_slip_about_blockers() {
-    for calls in [stored(), random(1, 4_000)] {
+    for calls in [stored(), random(1, 12_000)] {
         for op in [0x05, 0x06, 0x0C, 0x20] {
             let answered = Answered::of(op, &calls);
             for (slip, ops) in blocker_slips() {

@@ -14,11 +14,11 @@ use Rattle.request.specs.declared.Written.the-variants.{Wrote, Refused as Unwri
 use Rattle.request.specs.declared.Link.{Link}
 use Rattle.request.specs.declared.Demand.{Demand}
 use Rattle.request.specs.View.{DemandView, View, viewDemand, noLink, noDemand, demandAt, noEntry}
+use Rattle.request.specs.ViewLaws.{map-at}
 use Rattle.request.specs.Check.{then, check}
 use Rattle.request.specs.CheckLaws.{first-sound, then-sound, then-refused}
 use Rattle.writing.specs.inner.Ready.{RoutesFit}
 use Rattle.lent.specs.LentLaws.{sets-then, over-more}
-use Rattle.meeting.specs.AskedLaws.{map-at}
 use Rattle.lent.specs.Lent.{checkRoom, checkRooms, over, unlessRefused, writeAnswer}
 use Rattle.columns.specs.Columns.{hopCounts, routeLinks, linkEnds, DemandBuffers, demandRooms, checkDemandColumns, checkRouteColumns, demandReply, routeReply, demandsOver, demandsAfter, endsAfter, hopsAfter, routesAfter}
 

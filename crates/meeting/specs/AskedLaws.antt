@@ -1,21 +1,15 @@
 -- How many demands a request's array holds, and what stands behind the last.
-use Prim.Native.Nat.{ℕ, zero, suc, _≤_, _<_}
-use mathlib.Core.List.{List, [], _∷_, map}
-use mathlib.Core.Path.{_≡_, refl, ap, _∙_}
+use Prim.Native.Nat.{ℕ, _≤_, _<_}
+use mathlib.Core.List.{List, map}
+use mathlib.Core.Path.{_≡_, ap, _∙_}
 use native.Mathlib.Omega.{arith}
 use lib.ListN.{length, getD, take, length-map, length-take, List·getD-eq-default}
 use lib.Seq.{getD-take}
 use Rattle.request.specs.declared.Demand.{Demand}
 use Rattle.request.specs.declared.Request.{Request}
 use Rattle.request.specs.View.{DemandView, viewDemand, view, noDemand, demandAt, noEntry}
-use Rattle.request.specs.ViewLaws.{demands-shown, demand-shown}
+use Rattle.request.specs.ViewLaws.{map-at, demands-shown, demand-shown}
 use Rattle.meeting.specs.inner.Meeting.{DemandCount}
-
--- what a map makes of the entry at an index
-pub map-at : {A B : Type 0} (f : A → B) (l : List A) (k : ℕ) (a : A) (b : B) → k < length l → getD (map f l) k b ≡ f (getD l k a)
-map-at f [] k a b h = absurd (omega arith)
-map-at f (x ∷ l) zero a b h = refl
-map-at f (x ∷ l) (suc k) a b h = map-at f l k a b (omega arith)
 
 -- as many are asked for as it says where the array has room for them
 pub demands-few : (count : ℕ) → count < 200 → DemandCount count count

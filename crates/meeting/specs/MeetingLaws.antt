@@ -12,6 +12,7 @@ use borrow.Author.Tests.{eqb-true, eqb-false, ltb-true, ltb-false}
 use Rattle.request.specs.declared.Demand.{Demand}
 use Rattle.request.specs.declared.Request.{Request}
 use Rattle.request.specs.View.{View, viewDemand, view, noDemand, demandAt, noEntry, DemandView}
+use Rattle.request.specs.ViewLaws.{map-at}
 use Rattle.request.specs.Check.{has}
 use Rattle.theory.specs.TestLaws.{by-test}
 use Rattle.theory.specs.Orders.{countUp, listing}
@@ -22,7 +23,7 @@ use Rattle.meeting.specs.Plan.{startAt, startsOf}
 use Rattle.meeting.specs.PlanLaws.{share-swap}
 use Rattle.meeting.specs.inner.Filling.{FilledTo}
 use Rattle.meeting.specs.FillingLaws.{filled-entry, unfilled-entry}
-use Rattle.meeting.specs.AskedLaws.{map-at, demand-none, demand-in}
+use Rattle.meeting.specs.AskedLaws.{demand-none, demand-in}
 use Rattle.meeting.specs.inner.Meeting.{RouteLength, someLink, markedIn, MarksOf}
 use Rattle.meeting.specs.Row.{meetingRow}
 

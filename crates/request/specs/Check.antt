@@ -1,7 +1,7 @@
 -- The test of a request in memory, in the order of its checks.
 use Prim.Native.Nat.{ℕ, _+_}
 use mathlib.Core.Bool.{Bool, true, false, cond, not, _&&_, _||_}
-use mathlib.Core.List.{List, [], _∷_, _++_}
+use mathlib.Core.List.{List, [], _∷_, _++_, map}
 use lib.ListN.{length}
 use lib.Dec.{leb, ltb, eqb}
 use Rattle.refusal.specs.declared.Refusal.{Refusal}
@@ -34,11 +34,11 @@ unfoldable pub listed : ℕ → List ℕ → Bool
 listed n [] = true
 listed n (a ∷ route) = ltb a n && listed n route
 
--- no link comes again later in a route
+-- no number of a list comes again later in it
 unfoldable pub once : List ℕ → Bool
 unfolding has
 once [] = true
-once (a ∷ route) = not (has a route) && once route
+once (x ∷ xs) = not (has x xs) && once xs
 
 -- where a link of the route leads to, the next one begins
 unfoldable pub unbroken : List Link → List ℕ → Bool
@@ -48,10 +48,16 @@ unbroken links (a ∷ []) = true
 unbroken links (a ∷ b ∷ route) =
     eqb (linkAt links a .to) (linkAt links b .from) && unbroken links (b ∷ route)
 
--- a route is sound: only listed links, none twice, no break
+-- the nodes of a route: where its first link begins, then where each of its links leads to
+unfoldable pub nodesOf : (ℕ → Link) → List ℕ → List ℕ
+nodesOf link [] = []
+nodesOf link (a ∷ route) = link a .from ∷ map (λ (b : ℕ). link b .to) (a ∷ route)
+
+-- a route is sound: only listed links, none twice, no break, and no node twice, the first and the last included
 unfoldable pub soundRoute : List Link → List ℕ → Bool
-unfolding listed once unbroken
-soundRoute links route = listed (length links) route && (once route && unbroken links route)
+unfolding listed once unbroken nodesOf linkAt
+soundRoute links route =
+    listed (length links) route && (once route && (unbroken links route && once (nodesOf (linkAt links) route)))
 
 -- a route has 1 to 32 links
 unfoldable pub allowedHops : ℕ → Bool

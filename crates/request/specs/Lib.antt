@@ -5,6 +5,7 @@ pub mod Check
 pub mod DemandTest
 pub mod CheckLaws
 pub mod RouteLaws
+pub mod PathLaws
 pub mod Steps
 pub mod StepsLaws
 pub mod Sound

@@ -7,7 +7,7 @@ use lib.ListN.{getD}
 use Rattle.grid.specs.Grid.{allowedBand}
 use Rattle.request.specs.declared.Link.{Link}
 use Rattle.request.specs.View.{DemandView, View, linkAt, demandAt, widthOf}
-use Rattle.request.specs.Check.{knownAsked}
+use Rattle.request.specs.Check.{knownAsked, nodesOf}
 
 -- a demand that a band of S slots with these links can be asked for
 pub record SoundDemand (S linkCount : ℕ) (link : ℕ → Link) (d : DemandView) : Type 0 where
@@ -25,6 +25,8 @@ pub record SoundDemand (S linkCount : ℕ) (link : ℕ → Link) (d : DemandView
   pub links-once : (p q : ℕ) → p < q → q < d .hops → getD (d .route) p 0 ≢ getD (d .route) q 0
   -- where a link of the route leads to, the next one begins
   pub no-break : (p : ℕ) → p + 1 < d .hops → link (getD (d .route) p 0) .to ≡ link (getD (d .route) (p + 1) 0) .from
+  -- no node is met twice, from the one where it begins to the one where it ends
+  pub nodes-once : (p q : ℕ) → p < q → q < d .hops + 1 → getD (nodesOf link (d .route)) p 0 ≢ getD (nodesOf link (d .route)) q 0
 
 -- a sound request
 pub record SoundRequest (v : View) : Type 0 where

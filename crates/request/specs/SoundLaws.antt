@@ -136,6 +136,7 @@ passes-sound S count links earlier d all routed pass =
       links-listed = holds .each-listed;
       links-once = holds .none-twice;
       no-break = holds .no-gap;
+      nodes-once = holds .nodes-differ;
     }
 
 -- a sound demand with a new ident passes, if its route is as long as it says
@@ -146,7 +147,12 @@ unfolding allowedHops
 sound-demand-passes S count links earlier d all routed new sound =
     let size : length (d .route) ≡ d .hops = routed (sound .at-most-32-hops) in
     let holds : RouteHolds count (linkAt links) (d .route) (d .hops)
-    = record { each-listed = sound .links-listed; none-twice = sound .links-once; no-gap = sound .no-break } in
+    = record {
+      each-listed = sound .links-listed;
+      none-twice = sound .links-once;
+      no-gap = sound .no-break;
+      nodes-differ = sound .nodes-once;
+    } in
     record {
       ident-new = new;
       asked-known = sound .asked-known;
@@ -208,16 +214,28 @@ check-sound v counted sound =
           (counted .routes-counted k (omega arith)) (passes k (omega arith));
     }
 
--- no demand of a request that the test finds sound is wider than the band
-pub width-inside : (v : View) → check v ≡ Sound → (k : ℕ) → widthOf (demandAt (v .demands) k) ≤ v .band .slots
-unfolding check demandAt widthOf askedWidth
-width-inside v sound k =
+-- of a request that the test finds sound each demand has passed
+demand-passed : (v : View) → check v ≡ Sound → (k : ℕ) → k < length (v .demands) →
+    Passes (v .band .slots) (v .links) (take k (idents (v .demands))) (demandAt (v .demands) k)
+unfolding check
+demand-passed v sound k h =
     let each =
     each-passes (checkBand (v .band)) (checkSomeLink (v .linkCount)) (checkLinks 0 (v .links)) (checkLinkCount (v .linkCount))
     (checkDemands (v .band .slots) (v .links) [] 0 (v .demands)) (checkDemandCount (v .demandCount)) sound in
+    demands-each (v .band .slots) (v .links) [] 0 (v .demands) (each .4) k h
+
+-- and has a sound route
+pub routes-sound : (v : View) → check v ≡ Sound → (k : ℕ) → k < length (v .demands) →
+    soundRoute (v .links) (demandAt (v .demands) k .route) ≡ true
+routes-sound v sound k h = demand-passed v sound k h .route-sound
+
+-- no demand of a request that the test finds sound is wider than the band
+pub width-inside : (v : View) → check v ≡ Sound → (k : ℕ) → widthOf (demandAt (v .demands) k) ≤ v .band .slots
+unfolding demandAt widthOf askedWidth
+width-inside v sound k =
     by-test (ltb k (length (v .demands)))
     (λ t.
-    let pass = demands-each (v .band .slots) (v .links) [] 0 (v .demands) (each .4) k (ltb-true k (length (v .demands)) t) in
+    let pass = demand-passed v sound k (ltb-true k (length (v .demands)) t) in
     width-allowed (v .band .slots) (widthOf (demandAt (v .demands) k)) (pass .width-allowed) .1)
     (λ f. rw (List·getD-eq-default (v .demands) noDemand (ltb-false k (length (v .demands)) f)) (omega arith))
 

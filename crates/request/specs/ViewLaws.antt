@@ -1,7 +1,8 @@
 -- What a request's view shows: the entries before the counts, and nothing else.
-use Prim.Native.Nat.{ℕ, _≤_, _<_, min}
+use Prim.Native.Nat.{ℕ, zero, suc, _≤_, _<_, min}
 use mathlib.Core.List.{List, [], map, _++_, _∷_, map-append}
-use mathlib.Core.Path.{_≡_, sym, ap, _∙_}
+use mathlib.Core.Path.{_≡_, refl, sym, ap, _∙_}
+use native.Mathlib.Omega.{arith}
 use lib.ListN.{length, take, getD, length-map, length-take, List·getD-map, set}
 use lib.Seq.{getD-take, take-set-le}
 use Rattle.request.specs.declared.Link.{Link}
@@ -49,6 +50,12 @@ hop-behind d p a h = rw (take-set-le (d .hops) (d .links) p a h)
 -- a list is as long as any list made of it entry by entry
 pub mapped-length : (X Y : Type 0) (f : X → Y) (l : List X) (n : ℕ) → length (map f l) ≡ n → length l ≡ n
 mapped-length X Y f l n h = sym (length-map l f) ∙ h
+
+-- what a map makes of the entry at an index
+pub map-at : {A B : Type 0} (f : A → B) (l : List A) (k : ℕ) (a : A) (b : B) → k < length l → getD (map f l) k b ≡ f (getD l k a)
+map-at f [] k a b h = absurd (omega arith)
+map-at f (x ∷ l) zero a b h = refl
+map-at f (x ∷ l) (suc k) a b h = map-at f l k a b (omega arith)
 
 -- there are as many idents as demands
 pub idents-length : (demands : List DemandView) → length (idents demands) ≡ length demands

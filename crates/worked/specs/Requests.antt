@@ -60,6 +60,20 @@ T S =
           ∷ [];
     }
 
+-- two demands over links of which three lead round from node 0, one leads back to it and one on from it; the second has this route
+abbrev pub around : ℕ → List ℕ → View
+around hops route =
+    record {
+      band = bandOf 384 0;
+      linkCount = 5;
+      links = link 0 1 ∷ link 1 2 ∷ link 2 0 ∷ link 1 0 ∷ link 0 3 ∷ [];
+      demandCount = 2;
+      demands =
+          record { ident = 1; asked = Width 1; hops = 1; route = 0 ∷ [] }
+          ∷ record { ident = 2; asked = Width 1; hops = hops; route = route }
+          ∷ [];
+    }
+
 -- two demands with different routes that share link 0, the first of width 2, and guard 1
 abbrev pub twoOnOneLink : View
 twoOnOneLink =
@@ -94,4 +108,15 @@ fileBooked =
     ∷ 5 ∷ 0 ∷ 5 ∷ 0 ∷ 10 ∷ 0 ∷ 100 ∷ 0
     ∷ 5 ∷ 0 ∷ 6 ∷ 0 ∷ 20 ∷ 0 ∷ 10 ∷ 0 ∷ 1
     ∷ 3 ∷ 0 ∷ 5 ∷ 0 ∷ 30 ∷ 0 ∷ 3 ∷ 1
+    ∷ []
+
+-- three links round a triangle, a demand on the first of them, and behind it, at byte 31, one all the way round
+abbrev pub fileRing : List ℕ
+fileRing =
+    1 ∷ 0 ∷ 5 ∷ 0xFE ∷ 0xE4 ∷ 1 ∷ 0x80 ∷ 0
+    ∷ 2 ∷ 0 ∷ 2 ∷ 0 ∷ 1
+    ∷ 2 ∷ 0 ∷ 2 ∷ 1 ∷ 2
+    ∷ 2 ∷ 0 ∷ 2 ∷ 2 ∷ 0
+    ∷ 3 ∷ 0 ∷ 5 ∷ 0 ∷ 1 ∷ 0 ∷ 1 ∷ 0
+    ∷ 3 ∷ 0 ∷ 7 ∷ 0 ∷ 2 ∷ 0 ∷ 1 ∷ 0 ∷ 1 ∷ 2
     ∷ []

@@ -2,7 +2,7 @@
 use Prim.Native.Nat.{ℕ}
 use mathlib.Core.List.{List, [], _∷_}
 use lib.IntN.{pos, negsuc}
-use Rattle.worked.specs.Requests.{bandOf, R, booked, T, twoOnOneLink, fileR, fileBooked}
+use Rattle.worked.specs.Requests.{bandOf, R, booked, T, around, twoOnOneLink, fileR, fileBooked, fileRing}
 use Rattle.worked.specs.Calls.{Call, first-fit, bound, search, check-starts, to-frequency, from-frequency, read-request, Said, says, says±, reads}
 
 -- a call and its answer
@@ -29,7 +29,7 @@ infix 20 _refuses_at_
 abbrev none : ℕ
 none = 65535
 
--- all lines, c1 to c12, behind c4 a 13 with its blocker, and behind c12 R booked by rate. Of a search the values are the outcome's number (1 finished, 2 nothing fits, 3 unfinished), the end, the bound, the
+-- all lines, c1 to c12, behind c4 a 13 with its blocker, behind c12 R booked by rate, and last routes that meet a node twice. Of a search the values are the outcome's number (1 finished, 2 nothing fits, 3 unfinished), the end, the bound, the
 -- steps, the orders reached and ruled out; of a block's frequency n, m and MHz; of a block its start and its width.
 abbrev pub table : List Case
 table =
@@ -74,4 +74,10 @@ table =
     ∷ (search (booked 100) 5 gives says (0, 1 ∷ 4 ∷ 4 ∷ 5 ∷ 2 ∷ 0 ∷ []) ((0 ∷ 3 ∷ 0 ∷ 7 ∷ []) ∷ (0 ∷ 2 ∷ 1 ∷ 7 ∷ []) ∷ (none ∷ 2 ∷ none ∷ 7 ∷ []) ∷ []))
     ∷ (read-request fileBooked gives reads (booked 100) fileBooked)
     ∷ (bound (booked 0) refuses 21 at 0)
+    -- a route from node 0 over 1 to 2; on to 0, where it began; from 1 straight back; and on from 0 to 3. The ring once more, in a file
+    ∷ (bound (around 2 (0 ∷ 1 ∷ [])) answers (2 ∷ []))
+    ∷ (bound (around 3 (0 ∷ 1 ∷ 2 ∷ [])) refuses 7 at 1)
+    ∷ (bound (around 2 (0 ∷ 3 ∷ [])) refuses 7 at 1)
+    ∷ (bound (around 4 (0 ∷ 1 ∷ 2 ∷ 4 ∷ [])) refuses 7 at 1)
+    ∷ (read-request fileRing refuses 7 at 31)
     ∷ []

@@ -225,11 +225,12 @@ pub fn random_certificate(cases: &mut Cases, dice: &mut Dice, given: &Request) {
 pub fn random_offer(dice: &mut Dice, request: &Request) -> Offer {
     let most = dice.pick(&[1, 1, 2, 2, 2]);
     let mut offer = Offer { starts: some_plan(dice, request), weights: vec![0; request.demands.len()], most };
-    match dice.below(8) {
+    match dice.below(10) {
         0 => one_link(dice, request, &mut offer),
         1 => meeting_pairwise(dice, request, &mut offer),
         2 => offer.weights.iter_mut().for_each(|weight| *weight = dice.between(0, most)),
         3 => offer.weights.iter_mut().for_each(|weight| *weight = dice.between(0, 1)),
+        4 | 5 => heavier_last(dice, &mut offer),
         _ if request.demands.len() > LIFTED_MOST => meeting_pairwise(dice, request, &mut offer),
         _ => lifted(dice, request, &mut offer),
     }
@@ -254,6 +255,14 @@ fn one_link(dice: &mut Dice, request: &Request, offer: &mut Offer) {
             *weight = offer.most;
         }
     }
+}
+
+/// Every demand weighs, one of the last or a few more than the others: a three is too heavy, and a pair that begins behind it.
+fn heavier_last(dice: &mut Dice, offer: &mut Offer) {
+    offer.most = 2;
+    offer.weights.fill(1);
+    let heavier = dice.between(1, 3) as usize;
+    offer.weights.iter_mut().rev().take(heavier).for_each(|weight| *weight = 2);
 }
 
 /// Demands of which every two share a link.
@@ -285,6 +294,16 @@ fn shuffled(dice: &mut Dice, request: &Request) -> Vec<usize> {
     positions
 }
 
+/// One weight or two above what one may be.
+fn too_much(offer: &mut Offer, dice: &mut Dice) {
+    for _ in 0..dice.between(1, 2) {
+        let at = dice.below(offer.weights.len());
+        if let Some(weight) = offer.weights.get_mut(at) {
+            *weight = dice.pick(&[offer.most + 1, 3, 255]).min(255);
+        }
+    }
+}
+
 fn damage_offer(offer: &mut Offer, dice: &mut Dice) {
     let at = dice.below(offer.weights.len());
     match dice.below(8) {
@@ -292,7 +311,7 @@ fn damage_offer(offer: &mut Offer, dice: &mut Dice) {
         1 => offer.most = 3 - offer.most.clamp(1, 2),
         2 => drop(offer.weights.pop()),
         3 => offer.weights.push(dice.pick(&[0, 1, 255])),
-        4 if !offer.weights.is_empty() => offer.weights[at] = dice.pick(&[offer.most + 1, 3, 255]).min(255),
+        4 => too_much(offer, dice),
         _ if !offer.weights.is_empty() => offer.weights[at] = (offer.weights[at] + 1).min(offer.most),
         _ => {}
     }

@@ -2,7 +2,7 @@
 
 use super::cases::Cases;
 use super::certifying::{random_certificate, random_offer};
-use super::damage::{damage_file, damage_request, damage_starts};
+use super::damage::{damage_file, damage_plainly, damage_request, damage_starts};
 use super::dice::Dice;
 use super::grouping::random_groups;
 use super::ones::random_one;
@@ -53,7 +53,7 @@ pub fn small_searches(seed: u64, count: usize) -> Cases {
 
 fn random_call(cases: &mut Cases, dice: &mut Dice) {
     let request = random_request(dice);
-    match dice.below(22) {
+    match dice.below(23) {
         0 | 1 => random_file(cases, dice, &request),
         2 => cases.sound(&request),
         3 => {
@@ -68,32 +68,31 @@ fn random_call(cases: &mut Cases, dice: &mut Dice) {
             cases.check(&starts, &request);
         }
         11 | 12 => random_plan_file(cases, dice, &request),
-        13 => {
-            let starts = random_starts(dice, &request);
-            let room = random_room(dice, 7 * request.demands.len());
-            cases.write_plan(room, &starts, &request);
-        }
-        14 => random_frequency(cases, dice),
-        15 => random_block(cases, dice),
-        16 | 17 => random_groups(cases, dice, &request),
-        18 | 19 => random_certificate(cases, dice, &request),
+        13 | 14 => random_plan_writing(cases, dice, &request),
+        15 => random_frequency(cases, dice),
+        16 => random_block(cases, dice),
+        17 | 18 => random_groups(cases, dice, &request),
+        19 | 20 => random_certificate(cases, dice, &request),
         _ => cases.one(random_one(dice)),
     }
 }
 
 /// Mostly sound, mostly small.
 fn random_request(dice: &mut Dice) -> Request {
-    let mut request = match dice.below(26) {
+    let mut request = match dice.below(30) {
         0..=12 => small_request(dice),
-        13 => wedged_request(dice),
-        14..=21 => middling_request(dice),
-        22 => request_of(dice, (1, 384), (1, 12), (19, 22)),
-        23 | 24 => wide_request(dice),
+        13..=16 => wedged_request(dice),
+        17..=24 => middling_request(dice),
+        25 => request_of(dice, (1, 384), (1, 12), (19, 22)),
+        26 | 27 => wide_request(dice),
+        28 => long_request(dice),
         _ if dice.one_in(8) => large_request(dice),
         _ => request_of(dice, (1, 40), (1, 64), (0, 4)),
     };
-    if dice.one_in(4) {
-        damage_request(&mut request, dice);
+    match dice.below(18) {
+        0..=3 => damage_request(&mut request, dice),
+        4..=6 => damage_plainly(&mut request, dice),
+        _ => {}
     }
     request
 }
@@ -120,12 +119,14 @@ fn whole_tree(request: &Request) -> bool {
     found.is_ok_and(|found| found.steps > 0 && found.end != found.bound)
 }
 
-/// Demands wedged in, every other time with two of them listed the other way round.
-fn wedged_request(dice: &mut Dice) -> Request {
+/// Demands wedged in, often with two of them listed the other way round. With the third and the fourth so, the best order found
+/// rests one demand on two, of which the one listed later was placed first.
+pub fn wedged_request(dice: &mut Dice) -> Request {
     let mut request = wedged(dice.pick(&[0, 0, 1, 2]), dice.between(-1, 3));
-    if dice.one_in(2) {
-        let (one, other) = (dice.below(5), dice.below(5));
-        request.demands.swap(one, other);
+    match dice.below(3) {
+        0 => request.demands.swap(2, 3),
+        1 => request.demands.swap(dice.below(5), dice.below(5)),
+        _ => {}
     }
     same_by_rate(&mut request, dice);
     request
@@ -138,7 +139,7 @@ fn tight_request(dice: &mut Dice) -> Request {
     let mut request = Request::new(Band::new(dice.between(-400, 400), 1, guard), ring(nodes), vec![]);
     for at in 0..dice.between(3, 6) {
         let first = dice.below(nodes);
-        let hops = dice.pick(&[1, 2, 2, 2, 3]);
+        let hops = dice.pick(&[1, 2, 2, 2, 3]).min(nodes - 1);
         let route: Vec<usize> = (first..first + hops).map(|link| link % nodes).collect();
         request.demands.push(Demand::new(100 * at + dice.between(0, 99), dice.between(1, 3), &route));
     }
@@ -168,6 +169,20 @@ fn wide_request(dice: &mut Dice) -> Request {
         request.demands[at].asked = Asked::Rate(dice.pick(&[100, 400, 1000, 1000]));
     }
     tighten(&mut request, dice);
+    request
+}
+
+/// Few demands whose routes are long, up to the longest.
+fn long_request(dice: &mut Dice) -> Request {
+    let nodes = dice.between(33, 64) as usize;
+    let mut request = request_of(dice, (4, 40), (1, 1), (1, 5));
+    request.links = ring(nodes);
+    request.link_count = nodes;
+    for demand in &mut request.demands {
+        let first = dice.below(nodes);
+        demand.hops = dice.pick(&[10, 20, 31, 32, 32]);
+        demand.route = (first..first + demand.hops).map(|link| link % nodes).collect();
+    }
     request
 }
 
@@ -227,15 +242,27 @@ fn same_by_rate(request: &mut Request, dice: &mut Dice) {
     }
 }
 
-/// Links between few nodes; every other time the first of them run round.
+/// Links between few nodes, now and then between many; every other time the first of them run round.
 fn random_links(dice: &mut Dice, (least, most): (i64, i64)) -> Vec<(u8, u8)> {
-    let nodes = dice.between(2, 5);
+    let nodes = if dice.one_in(6) { dice.between(6, 40) } else { dice.between(2, 5) };
     let mut links: Vec<(u8, u8)> = if dice.one_in(2) { ring(nodes as usize) } else { vec![] };
     for _ in 0..most {
         links.push(random_link(dice, nodes));
     }
     links.truncate(dice.between(least, most) as usize);
+    if dice.one_in(3) {
+        renumber(&mut links, dice);
+    }
     links
+}
+
+/// Other numbers for the nodes, each its own: those that were close differ in their high bits.
+fn renumber(links: &mut [(u8, u8)], dice: &mut Dice) {
+    let mask = dice.below(256) as u8;
+    for (from, to) in links {
+        *from = from.rotate_left(6) ^ mask;
+        *to = to.rotate_left(6) ^ mask;
+    }
 }
 
 fn random_link(dice: &mut Dice, nodes: i64) -> (u8, u8) {
@@ -257,13 +284,14 @@ fn random_demand(dice: &mut Dice, request: &Request) -> Demand {
     Demand::new(ident, dice.between(1, most), &random_route(dice, &request.links))
 }
 
+/// A route that meets no node twice.
 fn random_route(dice: &mut Dice, links: &[(u8, u8)]) -> Vec<usize> {
     let mut route = vec![dice.below(links.len())];
-    let most = if dice.one_in(20) { 32 } else { 3 };
+    let most = if dice.one_in(12) { 32 } else { 3 };
     for _ in 1..dice.between(1, most) {
         let node = links[route[route.len() - 1]].1;
-        let next: Vec<usize> =
-            (0..links.len()).filter(|link| links[*link].0 == node && !route.contains(link)).collect();
+        let met = |node: u8| route.iter().any(|&link| links[link].0 == node || links[link].1 == node);
+        let next: Vec<usize> = (0..links.len()).filter(|&link| links[link].0 == node && !met(links[link].1)).collect();
         if next.is_empty() {
             break;
         }
@@ -320,7 +348,10 @@ fn random_order(cases: &mut Cases, dice: &mut Dice, request: &Request) {
         }
         _ => {}
     }
-    let rooms = random_rooms(dice, request.demands.len());
+    let mut rooms = random_rooms(dice, request.demands.len());
+    if dice.one_in(6) {
+        rooms[1] = random_room(dice, request.demands.len());
+    }
     cases.place_in(rooms, &order, request);
 }
 
@@ -347,6 +378,27 @@ pub fn random_starts(dice: &mut Dice, request: &Request) -> Vec<i64> {
         damage_starts(&mut starts, request.band.slots, dice);
     }
     starts
+}
+
+/// Every other time with a wide demand and mostly one start a slot too low, so that the plan rests on each width.
+fn random_plan_writing(cases: &mut Cases, dice: &mut Dice, given: &Request) {
+    let wide = dice.one_in(2);
+    let request = if wide { wide_request(dice) } else { given.clone() };
+    let mut starts = random_starts(dice, &request);
+    if wide {
+        lower_one(&mut starts, dice);
+    }
+    let room = random_room(dice, 7 * request.demands.len());
+    cases.write_plan(room, &starts, &request);
+}
+
+/// One of the starts above 0, where there are some, a slot lower.
+fn lower_one(starts: &mut [i64], dice: &mut Dice) {
+    let mut raised: Vec<&mut i64> = starts.iter_mut().filter(|start| **start > 0).collect();
+    if !raised.is_empty() {
+        let at = dice.below(raised.len());
+        *raised[at] -= 1;
+    }
 }
 
 fn random_plan_file(cases: &mut Cases, dice: &mut Dice, request: &Request) {

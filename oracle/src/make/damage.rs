@@ -6,6 +6,7 @@ use crate::fields::whole_fields;
 use crate::rates::{Asked, BY_RATE, BY_WIDTH};
 use crate::request::Request;
 use crate::rules::RATES;
+use crate::sound::nodes_of;
 
 /// One fault or more.
 pub fn damage_request(request: &mut Request, dice: &mut Dice) {
@@ -39,6 +40,29 @@ fn damage_links(request: &mut Request, dice: &mut Dice) {
     }
 }
 
+/// A rate of 0, an ident used under both tags, or a node met twice, and no other fault.
+pub fn damage_plainly(request: &mut Request, dice: &mut Dice) {
+    if request.demands.is_empty() {
+        return;
+    }
+    let at = dice.below(request.demands.len());
+    match dice.below(4) {
+        0 => request.demands[at].asked = Asked::Rate(0),
+        1 => repeat_ident(request, at),
+        _ => bite_tail(request, at, dice),
+    }
+}
+
+/// The ident of the next demand, and a width of one slot by the tag that the next does not have.
+fn repeat_ident(request: &mut Request, at: usize) {
+    let next = request.demands[(at + 1) % request.demands.len()].clone();
+    request.demands[at].ident = next.ident;
+    request.demands[at].asked = match next.asked {
+        Asked::Width(_) => Asked::Rate(10),
+        Asked::Rate(_) => Asked::Width(1),
+    };
+}
+
 /// One fault in a demand, now and then two in the same.
 fn damage_demand(request: &mut Request, dice: &mut Dice) {
     if request.demands.is_empty() {
@@ -54,7 +78,7 @@ fn damage_demand(request: &mut Request, dice: &mut Dice) {
 fn damage_one(request: &mut Request, at: usize, dice: &mut Dice) {
     let other = dice.below(request.demands.len());
     let slots = request.band.slots;
-    match dice.below(10) {
+    match dice.below(13) {
         0 => request.demands[at].ident = request.demands[other].ident,
         1 => request.demands[at].asked = Asked::Width(dice.pick(&[0, slots, slots + 1, 65535]).min(65535)),
         6 | 7 => request.demands[at].asked = Asked::Rate(some_rate(dice)),
@@ -62,6 +86,7 @@ fn damage_one(request: &mut Request, at: usize, dice: &mut Dice) {
         9 => request.demands[at].asked = other_kind(request.demands[at].asked),
         2 => *request = with_hops(request.clone(), at, dice.pick(&[0, 33, 255])),
         3 => damage_route(request, at, dice),
+        10..=12 => bite_tail(request, at, dice),
         4 => {
             let first = request.demands[at].route.first().copied();
             lengthen_route(request, at, first.unwrap_or(0));
@@ -103,6 +128,37 @@ fn damage_route(request: &mut Request, at: usize, dice: &mut Dice) {
     if !route.is_empty() {
         let hop = dice.below(route.len());
         route[hop] = dice.pick(&[0, 1, 2, links.saturating_sub(1), links, 255]);
+    }
+}
+
+/// The route goes on, unbroken, by links that are there or by added ones that lead back to one of its nodes; every other time by
+/// one more, to a node that it has not met.
+fn bite_tail(request: &mut Request, at: usize, dice: &mut Dice) {
+    for _ in 0..dice.between(1, 4) {
+        let nodes = nodes_of(request, &request.demands[at].route);
+        let Some(last) = nodes.last() else { return };
+        let on: Vec<usize> = (0..request.links.len()).filter(|&link| request.links[link].0 == *last).collect();
+        if !on.is_empty() && !dice.one_in(3) {
+            lengthen_route(request, at, dice.pick(&on));
+        } else {
+            lengthen_to(request, at, dice.pick(&nodes));
+        }
+    }
+    let nodes = nodes_of(request, &request.demands[at].route);
+    if dice.one_in(2) {
+        let new = (0..=255).find(|node| !nodes.contains(node));
+        lengthen_to(request, at, new.unwrap_or(0));
+    }
+}
+
+/// By a link that is added, where there is room for one, from the route's last node to another.
+fn lengthen_to(request: &mut Request, at: usize, node: u8) {
+    let last = nodes_of(request, &request.demands[at].route).last().copied();
+    let full = request.links.len() != request.link_count || request.link_count >= 64;
+    if let Some(last) = last.filter(|&last| last != node && !full) {
+        request.links.push((last, node));
+        request.link_count += 1;
+        lengthen_route(request, at, request.link_count - 1);
     }
 }
 
@@ -167,7 +223,7 @@ fn damage_header(file: &mut [u8], dice: &mut Dice) {
     }
 }
 
-/// A field left out, repeated, or moved to another place.
+/// A field left out, repeated, or moved to another place, or all links left out.
 fn move_field(file: &mut Vec<u8>, dice: &mut Dice) {
     let mut fields: Vec<Vec<u8>> =
         whole_fields(file).iter().map(|field| file[field.offset..field.offset + 3 + field.length].to_vec()).collect();
@@ -176,11 +232,12 @@ fn move_field(file: &mut Vec<u8>, dice: &mut Dice) {
     }
     let at = dice.below(fields.len());
     let to = dice.below(fields.len());
-    match dice.below(6) {
+    match dice.below(7) {
         0 => drop(fields.remove(at)),
         1 => fields.insert(to, fields[at].clone()),
         2 => link_behind_demand(&mut fields, dice),
         3 | 4 => stretch_demand(&mut fields, dice),
+        5 => fields.retain(|field| field[0] != 2),
         _ => fields.swap(at, to),
     }
     *file = fields.concat();

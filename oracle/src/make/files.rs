@@ -75,9 +75,9 @@ fn sound_files(cases: &mut Cases) {
     }
     cases.read(&request_bytes(&bare(Band::new(0, 1, 0))));
     cases.read(&request_bytes(&Request::new(Band::new(1, 2, 3), vec![(255, 0), (255, 0), (0, 255)], vec![])));
-    let back_and_on = vec![Demand::new(0, 1, &[0, 1, 2]), Demand::new(65535, 1, &[0, 1, 2])];
+    let there_and_back = vec![Demand::new(0, 1, &[0]), Demand::new(65535, 1, &[1]), Demand::new(9, 1, &[0])];
     let links = vec![(0, 1), (1, 0), (0, 1)];
-    cases.read(&request_bytes(&Request::new(Band::new(-1, 1, 0), links, back_and_on)));
+    cases.read(&request_bytes(&Request::new(Band::new(-1, 1, 0), links, there_and_back)));
 }
 
 pub fn bands_at_the_edges() -> Vec<Band> {
@@ -150,9 +150,10 @@ fn route_files(cases: &mut Cases) {
     }
 }
 
-/// Routes on a ring of four, and a fifth link that is not there: sound ones, breaks, twice, unlisted.
+/// Routes on a ring of four, and a fifth link that is not there: sound ones, all round, breaks, twice, unlisted.
 pub fn routes_on_a_ring() -> Vec<Vec<usize>> {
     vec![
+        vec![0, 1, 2],
         vec![0, 1, 2, 3],
         vec![3, 0],
         vec![1, 0],

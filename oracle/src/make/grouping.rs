@@ -1,7 +1,7 @@
 //! Whole groups: the stored cases, and cases by chance.
 
 use super::cases::Cases;
-use super::chance::{random_rooms, request_of, small_request, tighten_to};
+use super::chance::{random_rooms, request_of, small_request, tighten_to, wedged_request};
 use super::damage::damage_request;
 use super::dice::Dice;
 use super::shapes::*;
@@ -133,6 +133,9 @@ fn nothing_found(cases: &mut Cases) {
         cases.groups(count, &stack(9, 8, &[1, 1, 1]));
         cases.groups_in([3, 5], count, &worked(3, 0));
     }
+    for count in [4, 5] {
+        cases.groups(count, &stack(4, 0, &[1; 5]));
+    }
 }
 
 /// Too little room in one buffer or in both, with counts that will do and not, with a plan and without.
@@ -210,10 +213,13 @@ pub fn placements(count: usize, demands: usize) -> usize {
     }
 }
 
-/// Every other time the request given, else one of more demands. Where all orders would take too long the groups are fewer.
+/// Now and then a group for each demand wedged in. Else every other time the request given, or one of more demands. Where all orders would take too long the groups are fewer.
 pub fn random_groups(cases: &mut Cases, dice: &mut Dice, given: &Request) {
-    if dice.one_in(60) {
+    if dice.one_in(32) {
         return many_groups(cases, dice);
+    }
+    if dice.one_in(12) {
+        return cases.groups(5, &wedged_request(dice));
     }
     let mut request = if dice.one_in(2) { given.clone() } else { longer_request(dice) };
     if dice.one_in(12) {
@@ -229,7 +235,7 @@ pub fn random_groups(cases: &mut Cases, dice: &mut Dice, given: &Request) {
 
 /// Seven groups or eight, of few demands.
 fn many_groups(cases: &mut Cases, dice: &mut Dice) {
-    let count = dice.pick(&[7, 7, 7, 8]);
+    let count = dice.pick(&[7, 8]);
     let request = grouped_request(dice, (count, 11));
     cases.groups(count as usize, &request);
 }
@@ -240,18 +246,22 @@ fn longer_request(dice: &mut Dice) -> Request {
     grouped_request(dice, demands)
 }
 
-/// Mostly in a band in which not every order fits.
+/// Mostly in a band in which not every order fits, and often in one in which hardly any does.
 fn grouped_request(dice: &mut Dice, demands: (i64, i64)) -> Request {
     let mut request = request_of(dice, (8, 384), (1, 12), demands);
     if !dice.one_in(4) {
-        let more = dice.between(-1, 12);
+        let most = dice.pick(&[1, 12]);
+        let more = dice.between(-1, most);
         tighten_to(&mut request, more);
     }
     request
 }
 
-/// Mostly a count that may be; now and then none, a few too many, or far off.
+/// Mostly a count that may be; now and then none, a few too many, or far off. Without demands none may be, and mostly it is none.
 fn random_count(dice: &mut Dice, demands: usize) -> usize {
+    if demands == 0 && !dice.one_in(3) {
+        return 0;
+    }
     let most = demands.clamp(1, 8);
     match dice.below(16) {
         0 => dice.below(11),

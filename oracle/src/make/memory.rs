@@ -24,8 +24,8 @@ pub fn memory_cases(cases: &mut Cases) {
 fn sound_requests() -> Vec<Request> {
     let mut requests: Vec<Request> = bands_at_the_edges().into_iter().map(bare).collect();
     requests.extend([worked(384, 0), worked(3, 8), triangle(1), round(6, 5, 1), apart(64, 1), largest()]);
-    let parallel = vec![(9, 8), (9, 8), (8, 9)];
-    let twins = vec![Demand::new(65535, 1, &[0, 2, 1]), Demand::new(0, 1, &[0, 2, 1])];
+    let parallel = vec![(9, 8), (9, 8), (8, 7)];
+    let twins = vec![Demand::new(65535, 1, &[0, 2]), Demand::new(0, 1, &[0, 2]), Demand::new(1, 1, &[1, 2])];
     requests.push(Request::new(Band::new(0, 1, 0), parallel, twins));
     for count in [199, 200] {
         requests.push(with_demand_count(worked(384, 0), count));

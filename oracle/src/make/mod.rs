@@ -13,6 +13,7 @@ mod grouping;
 mod longest;
 mod memory;
 mod ones;
+mod paths;
 mod planning;
 mod rates;
 mod searching;
@@ -30,6 +31,7 @@ pub fn stored() -> Vec<Call> {
     files::file_cases(&mut cases);
     memory::memory_cases(&mut cases);
     rates::rate_cases(&mut cases);
+    paths::path_cases(&mut cases);
     fitting::fitting_cases(&mut cases);
     blocking::blocking_cases(&mut cases);
     ones::one_cases(&mut cases);

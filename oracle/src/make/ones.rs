@@ -157,7 +157,10 @@ pub fn random_one(dice: &mut Dice) -> One {
         6 => wide_one(dice, |dice| dice.pick(&[0, 1, 2, 3, 32767, 32768, MOST - 2, MOST - 1, MOST])),
         _ => wide_one(dice, |dice| dice.between(0, MOST)),
     };
-    if dice.one_in(20) {
+    if dice.one_in(8) {
+        if dice.one_in(2) {
+            one.numbers.truncate(1);
+        }
         one.count = dice.pick(&[200, 201, 255, 256, MOST as usize]);
         let unmet = Standing { meets: 0, start: 0, end: MOST };
         one.numbers.resize(NUMBERS_HELD, unmet);

@@ -11,10 +11,10 @@ use Rattle.request.proofs.route.stands_in.Statement.{statement}
 use Rattle.request.proofs.route.stands_in.Tie as tie
 
 abbrev Inv-loop : tie.InvT-loop
-Inv-loop route link i₀ i = (i ≤ length route) × ((k : ℕ) → k < i → link ≡ getD route k 0 → ⊥)
+Inv-loop nodes node i₀ i = (i ≤ length nodes) × ((k : ℕ) → k < i → node ≡ getD nodes k 0 → ⊥)
 
 abbrev μ-loop : tie.MeasureT-loop
-μ-loop route link i₀ i = length route - i
+μ-loop nodes node i₀ i = length nodes - i
 
 loop-holds : tie.Need-loop-holds Inv-loop μ-loop
 loop-holds c = search needs
@@ -25,7 +25,7 @@ shared-slice-read-if1 c = search needs
 returns : tie.Need-returns Inv-loop μ-loop
 returns c =
     let start = c .before .before .before .before in
-    sym (has-at (start .args .link) (now (start .args .route)) (c .before .before .before .loop .i) (omega arith) (c .if1 .taken))
+    sym (has-at (start .args .node) (now (start .args .nodes)) (c .before .before .before .loop .i) (omega arith) (c .if1 .taken))
 
 add-i : tie.Need-add-i Inv-loop μ-loop
 add-i c = search needs
@@ -39,8 +39,8 @@ loop-again c = (search needs, below-more _ _ (c .before .before .before .loop .i
 returns-2 : tie.Need-returns-2 Inv-loop μ-loop
 returns-2 c =
     let start = c .before .before in
-    sym (none-has (start .args .link) (now (start .args .route))
-    (λ (k : ℕ) (h : k < length (now (start .args .route))). c .before .loop .inv .1 k (omega arith)))
+    sym (none-has (start .args .node) (now (start .args .nodes))
+    (λ (k : ℕ) (h : k < length (now (start .args .nodes))). c .before .loop .inv .1 k (omega arith)))
 
 pub stands-in-spec : {M : Type 1} → statement M
 stands-in-spec =

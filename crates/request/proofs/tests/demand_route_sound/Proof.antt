@@ -3,7 +3,7 @@ use Prim.Native.Nat.{ℕ}
 use mathlib.Core.List.{List}
 use mathlib.Core.Path.{_≡_, sym, _∙_, ap}
 use native.Mathlib.Omega.{arith}
-use lib.ListN.{length, take}
+use lib.ListN.{length, take, length-take}
 use lib.Seq.{length-take-le, take-all}
 use Rattle.request.specs.View.{viewDemand}
 use Rattle.request.specs.Check.{soundRoute}
@@ -14,38 +14,36 @@ use Rattle.request.proofs.tests.demand_route_sound.Reads as reads
 use Rattle.request.proofs.tests.demand_route_sound.Lts as lts
 use Rattle.request.proofs.route.sound_route.Reads as sound-route-reads
 
--- src/check.rt:118:21
 array-share-prefix-route : tie.Need-array-share-prefix-route
 array-share-prefix-route c =
     let demand = c .before .before .args .demand in
     let whole : _≡_ {A = ℕ} (length (demand .links)) 32 = search needs in
     omega arith
 
--- src/check.rt:118:21
 slice-aggregate-sound-route : tie.Need-slice-aggregate-sound-route
 slice-aggregate-sound-route c =
     let demand = c .before .before .before .args .demand in
     let whole : _≡_ {A = ℕ} (length (demand .links)) 32 = search needs in
     sym (length-take-le (demand .hops) (demand .links) (omega arith))
 
--- src/check.rt:118:9
 sound-route-requires : tie.Need-sound-route-requires
-sound-route-requires c κs = search needs
+sound-route-requires c κs =
+    let demand = c .before .before .before .args .demand in
+    omega (arith, length-take (demand .hops) (demand .links))
 
--- src/check.rt:120:21
 slice-aggregate-sound-route-2 : tie.Need-slice-aggregate-sound-route-2
 slice-aggregate-sound-route-2 c = search needs
 
--- src/check.rt:120:9
 sound-route-requires-2 : tie.Need-sound-route-requires-2
-sound-route-requires-2 c κs = search needs
+sound-route-requires-2 c κs =
+    let demand = c .before .before .before .args .demand in
+    let whole : _≡_ {A = ℕ} (length (demand .links)) 32 = search needs in
+    omega arith
 
--- src/check.rt:111:1
 returns : tie.Need-returns
 unfolding viewDemand
 returns c = c .sound-route .ensures
 
--- src/check.rt:111:1
 returns-2 : tie.Need-returns-2
 unfolding viewDemand
 returns-2 c =
