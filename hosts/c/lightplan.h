@@ -29,7 +29,7 @@ extern "C" {
    Changes: 2 numbers outcomes from 1 (1 did from 0), tells what a check refuses, and adds lightplan_read_routes and this number. 3 lends
    lightplan_search a third buffer, for who is in the way, and adds LIGHTPLAN_NOBODY. 4 reads demands by bit rate: it lends lightplan_read a
    third buffer, for the rates, and adds LIGHTPLAN_UNKNOWN_RATE. 5 adds lightplan_groups and LIGHTPLAN_GROUPS_OUTSIDE. 6 adds
-   lightplan_certify, LIGHTPLAN_NO_CERTIFICATE and LIGHTPLAN_OF_CERTIFICATE. */
+   lightplan_certify, LIGHTPLAN_NO_CERTIFICATE and LIGHTPLAN_OF_CERTIFICATE, and refuses a route that meets a node twice. */
 #define LIGHTPLAN_VERSION 6
 
 /* The longest files that are read. To see that a file is too long it is enough to give one byte more. */
@@ -56,10 +56,10 @@ extern "C" {
 /* In the blockers of lightplan_search and lightplan_groups: nobody is in the way. Listing positions are below LIGHTPLAN_DEMANDS. */
 #define LIGHTPLAN_NOBODY 65535
 
-/* A stack of so many bytes is enough for any of the calls, on x86-64. Measured with the heaviest inputs: lightplan_read 59248,
-   lightplan_read_routes 68896, lightplan_check 70400, lightplan_search 72768, lightplan_groups 113280, lightplan_check_starts 49456,
-   lightplan_certify 60224, lightplan_frequency 40, lightplan_version 8. */
-#define LIGHTPLAN_STACK 122880
+/* A stack of so many bytes is enough for any of the calls, on x86-64. Measured with the heaviest inputs: lightplan_read 59296,
+   lightplan_read_routes 68944, lightplan_check 70448, lightplan_search 73648, lightplan_groups 104256, lightplan_check_starts 49504,
+   lightplan_certify 63344, lightplan_frequency 40, lightplan_version 8. */
+#define LIGHTPLAN_STACK 114688
 
 /* Why there is no answer. "Offset" is the byte of the file where the faulty field begins. */
 enum lightplan_refusal {

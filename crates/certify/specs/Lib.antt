@@ -5,6 +5,7 @@ pub mod SumLaws
 pub mod PairLaws
 pub mod ReplyLaws
 pub mod PlanLaws
+pub mod SmallLaws
 pub mod Promise
 pub mod PromiseLaws
 pub mod inner

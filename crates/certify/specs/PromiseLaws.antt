@@ -11,17 +11,16 @@ use borrow.Author.Tests.{leb-true, ltb-false, lt-ltb, eqb-true, eqb-false, not-t
 use Rattle.refusal.specs.declared.Refusal.the-variants.{NoCertificate}
 use Rattle.refusal.specs.Told.{Told}
 use Rattle.refusal.specs.ToldLaws.{refusal-told-whole, refusal-told-fault}
-use Rattle.theory.specs.Orders.{listing}
 use Rattle.theory.specs.Problem.{Problem}
 use Rattle.theory.specs.TestLaws.{by-test, or-first, or-second}
 use Rattle.theory.specs.TriedLaws.{below-or-not}
-use Rattle.theory.specs.Certificate.{Certificate, weighed, certifiedEnd}
+use Rattle.theory.specs.Certificate.{Certificate, certifiedEnd}
 use Rattle.theory.specs.CertificateLaws.{certificate-holds, certified-below, threes-enough}
 use Rattle.request.specs.declared.Checked.{Checked}
 use Rattle.request.specs.declared.Checked.the-variants as checked
 use Rattle.request.specs.declared.Request.{Request}
 use Rattle.request.specs.View.{View, view}
-use Rattle.request.specs.Check.{then, must}
+use Rattle.request.specs.Check.{must}
 use Rattle.request.specs.CheckLaws.{first-sound, next-sound, test-held}
 use Rattle.request.specs.Sharing.{problemOf}
 use Rattle.request.specs.Whole.{Whole, Counted}
@@ -39,6 +38,7 @@ use Rattle.plan.specs.AcceptableLaws.{accepted-allowed}
 use Rattle.certify.specs.declared.Certified.{Certified}
 use Rattle.certify.specs.declared.Certified.the-variants.{Best, AtLeast, Refused}
 use Rattle.certify.specs.Reply.{weightOf, checkWeights, someFrom, weighsBeside, heavyThree, heavyWith, checkSets, checkCertificate, sumOf, lowOf, endTold, toldAfter, certifiedWith, afterPlan, certifyReply, certifiedTold}
+use Rattle.certify.specs.inner.Sets.{checkedIn}
 use Rattle.certify.specs.ReplyLaws.{passed-shape, passed-rest}
 use Rattle.certify.specs.PlanLaws.{accepted-sound}
 use Rattle.certify.specs.Promise.{NoneBelow, PlanEnds, Promised}
@@ -139,10 +139,10 @@ module _ (P : Problem) (weights : List ℕ) (a K : ℕ) where
 module _ (v : View) (weights : List ℕ) (a : ℕ) (passes : checkCertificate v weights a ≡ checked.Sound) where
   -- a certificate that passed its test is one
   pub passed-certificate : Certificate (problemOf v) (v .demandCount) (weightOf weights) a
-  unfolding weightOf
+  unfolding weightOf checkCertificate checkedIn
   passed-certificate =
-      let shape = passed-shape v weights a passes in
-      let rest = passed-rest v weights a passes in
+      let shape = passed-shape (problemOf v) (v .demandCount) weights a passes in
+      let rest = passed-rest (problemOf v) (v .demandCount) weights a passes in
       let K : ℕ = v .demandCount in
       let light : (i : ℕ) → i < K → getD weights i 0 ≤ a = λ i h. weights-light a 0 weights (rest .0) i (omega (arith, shape .0)) in
       let none : (i : ℕ) → i < K → heavyWith (problemOf v) weights a K i ≡ false =
@@ -153,13 +153,13 @@ module _ (v : View) (weights : List ℕ) (a : ℕ) (passes : checkCertificate v 
 
   -- so no allowed plan whatsoever ends below the end that it gives
   pub certificate-proves : SoundRequest v → Limits v → NoneBelow v (lowOf v weights a)
-  unfolding NoneBelow lowOf sumOf problemOf
+  unfolding NoneBelow lowOf sumOf problemOf checkCertificate checkedIn
   certificate-proves sound limits other allowed =
       let P : Problem = problemOf v in
       let G : ℕ = v .band .guard in
       let K : ℕ = v .demandCount in
       subst (λ (e : ℕ). certifiedEnd G a (sumOf v weights) ≤ e) (sym (plan-end-is v other (limits .demands-there)))
-      (certified-below G a (sumOf v weights) _ (passed-shape v weights a passes .1)
+      (certified-below G a (sumOf v weights) _ (passed-shape P K weights a passes .1)
       (certificate-holds P G (weightOf weights) (startAt other) (v .band .slots) (λ i j. refl) K
       (slots-to-ends v other sound (limits .routes-there) allowed) a passed-certificate))
 

@@ -1,22 +1,21 @@
 -- The tests of a certificate, turn by turn: weights, pairs and threes.
-use Prim.Native.Nat.{ℕ, zero, suc, _+_, _-_, _≤_, _<_}
+use Prim.Native.Nat.{ℕ, suc, _+_, _-_, _≤_, _<_}
 use mathlib.Core.Bool.{Bool, true, false, not, _&&_, _||_}
-use mathlib.Core.List.{List, [], _∷_}
-use mathlib.Core.Path.{_≡_, refl, sym, ap, ap₂, _∙_}
+use mathlib.Core.List.{List}
+use mathlib.Core.Path.{_≡_, sym, ap, _∙_}
 use native.Mathlib.Omega.{arith}
 use native.Mathlib.Numerals.{add-one}
-use lib.Dec.{leb, ltb}
+use lib.Dec.{leb}
 use lib.ListN.{length, getD, drop, drop-of-length-le}
 use lib.Seq.{drop-cons}
 use borrow.Author.Tests.{le-leb, lt-leb, lt-ltb, le-ltb}
 use Rattle.refusal.specs.declared.Refusal.the-variants.{NoCertificate}
 use Rattle.theory.specs.Problem.{Problem}
-use Rattle.request.specs.declared.Checked.{Checked}
 use Rattle.request.specs.declared.Checked.the-variants as checked
-use Rattle.request.specs.Check.{then, must}
+use Rattle.request.specs.Check.{must}
 use Rattle.request.specs.CheckLaws.{then-sound, then-refused}
-use Rattle.certify.specs.Reply.{weightOf, checkWeights, someFrom, weighsBeside, heavyThree, heavyWith, checkSets}
-use Rattle.certify.specs.inner.Sets.{pairHeavy, thirdHeavy, thirdFrom}
+use Rattle.certify.specs.Reply.{weightOf, checkWeights, someFrom, heavyWith, checkSets}
+use Rattle.certify.specs.inner.Sets.{pairHeavy}
 
 -- a test that holds passes, one that does not refuses
 must-pass : (b : Bool) (k : ℕ) → b ≡ true → must b (NoCertificate k) ≡ checked.Sound
@@ -64,13 +63,6 @@ some-here test k n inside e = some-turn test k n inside ∙ ap (λ (b : Bool). b
 
 pub some-on : (test : ℕ → Bool) (k n : ℕ) → k < n → test k ≡ false → someFrom test k (n - k) ≡ someFrom test (k + 1) (n - (k + 1))
 some-on test k n inside e = some-turn test k n inside ∙ ap (λ (b : Bool). b || someFrom test (k + 1) (n - (k + 1))) e
-
--- what is tested alike is found alike
-pub some-alike : (f g : ℕ → Bool) (k n : ℕ) → ((i : ℕ) → k ≤ i → i < k + n → f i ≡ g i) → someFrom f k n ≡ someFrom g k n
-unfolding someFrom
-some-alike f g k zero same = refl
-some-alike f g k (suc n) same =
-    ap₂ (λ (x y : Bool). x || y) (same k (omega arith) (omega arith)) (some-alike f g (k + 1) n (λ i low high. same i (omega arith) (omega arith)))
 
 module _ (P : Problem) (weights : List ℕ) (a K : ℕ) where
   -- a demand that weighs nothing is the first of none

@@ -1,28 +1,21 @@
-// The test of a certificate: pairs and threes of demands that share no link.
-use meeting::meeting_row;
+// The test of a certificate: pairs and threes of demands that share no link, told by the words of their routes.
+use meeting::share_bit;
 use refusal::Refusal;
 use request::Checked;
-use request::Request;
 ghost use mathlib.Core.Path.{_≡_};
 ghost use mathlib.Core.Bool.{not, _&&_};
-ghost use Prim.Native.Nat.{_+_, _-_, _≤_, _<_};
+ghost use Prim.Native.Nat.{_+_, _≤_, _<_};
 ghost use lib.Dec.{ltb};
 ghost use lib.ListN.{getD, length};
-ghost use Rattle.request.specs.declared.Checked.the-variants.{Sound};
-ghost use Rattle.request.specs.View.{view};
-ghost use Rattle.request.specs.Check.{check};
-ghost use Rattle.request.specs.Sharing.{problemOf};
-ghost use Rattle.meeting.specs.Row.{meetingRow};
-ghost use Rattle.certify.specs.Reply.{checkCertificate, checkWeights, checkSets, heavyWith};
-ghost use Rattle.certify.specs.inner.Sets.{Weighable, pairHeavy, thirdFrom};
+ghost use Rattle.certify.specs.Reply.{checkWeights, checkSets, heavyThree, heavyWith};
+ghost use Rattle.certify.specs.inner.Sets.{sharingIn, checkedIn, pairHeavy};
 
-// 30 where the weights are no certificate of a sound request: as many as there are demands, none above `a`, 1 or 2, and no pair and no
-// three that share no link weigh more.
-pub(crate) fn check_certificate(request: Request, weights: &[u8], a: u8) -> Checked
-    requires { ⌜ check (view request) ≡ Sound ⌝ }
-    ensures { λ r. ⌜ r ≡ checkCertificate (view request) (now (weights .entry)) a ⌝ }
+// 30 where the weights are no certificate for so many demands: a weight for each, none above `a`, 1 or 2, and no pair and no three that
+// share no link weigh more.
+pub(crate) fn check_certificate(words: &[u64; 200], count: usize, weights: &[u8], a: u8) -> Checked
+    requires { ⌜ count ≤ 200 ⌝ }
+    ensures { λ r. ⌜ r ≡ checkedIn (sharingIn (now (words .entry))) count (now (weights .entry)) a ⌝ }
 {
-    let count = request.demand_count;
     if weights.len() != count {
         return Checked::Refused(Refusal::NoCertificate(count));
     }
@@ -36,7 +29,7 @@ pub(crate) fn check_certificate(request: Request, weights: &[u8], a: u8) -> Chec
     if let Checked::Refused(why) = light {
         return Checked::Refused(why);
     }
-    check_sets(request, weights, a)
+    check_sets(words, weights, a)
 }
 
 // 30 at the first weight above `a`.
@@ -54,14 +47,13 @@ fn check_weights(weights: &[u8], a: u8) -> Checked
 }
 
 // 30 at the first demand that is the first of a pair, or of three, that share no link and weigh more than `a` together.
-fn check_sets(request: Request, weights: &[u8], a: u8) -> Checked
-    requires { ⌜ Weighable (view request) (now weights) ⌝ }
-    ensures { λ r. ⌜ r ≡ checkSets (problemOf (view request)) (now (weights .entry)) a (view request .demandCount) 0 (view request .demandCount) ⌝ }
+fn check_sets(words: &[u64; 200], weights: &[u8], a: u8) -> Checked
+    requires { ⌜ length (now weights) ≤ 200 ⌝ }
+    ensures { λ r. ⌜ r ≡ checkSets (sharingIn (now (words .entry))) (now (weights .entry)) a (length (now (weights .entry))) 0 (length (now (weights .entry))) ⌝ }
 {
-    let count = request.demand_count;
     let mut i: usize = 0;
-    while i < count {
-        if heavy_with(request, weights, a, i) {
+    while i < weights.len() {
+        if heavy_with(words, weights, a, i) {
             return Checked::Refused(Refusal::NoCertificate(i));
         }
         i += 1;
@@ -70,20 +62,16 @@ fn check_sets(request: Request, weights: &[u8], a: u8) -> Checked
 }
 
 // Whether demand i is the first of such a pair or three.
-fn heavy_with(request: Request, weights: &[u8], a: u8, i: usize) -> bool
-    requires { ⌜ Weighable (view request) (now weights) ⌝ }
-    requires { ⌜ i < view request .demandCount ⌝ }
-    ensures { λ r. ⌜ r ≡ heavyWith (problemOf (view request)) (now (weights .entry)) a (view request .demandCount) i ⌝ }
+fn heavy_with(words: &[u64; 200], weights: &[u8], a: u8, i: usize) -> bool
+    requires { ⌜ (length (now weights) ≤ 200) × (i < length (now weights)) ⌝ }
+    ensures { λ r. ⌜ r ≡ heavyWith (sharingIn (now (words .entry))) (now (weights .entry)) a (length (now (weights .entry))) i ⌝ }
 {
-    let count = request.demand_count;
     if weights[i] == 0 {
         return false;
     }
-    let demands = request.demands;
-    let row = meeting_row(demands, count, i);
     let mut j = i + 1;
-    while j < count {
-        if heavy_pair(request, &row, weights, a, i, j) {
+    while j < weights.len() {
+        if heavy_pair(words, weights, a, i, j) {
             return true;
         }
         j += 1;
@@ -91,23 +79,14 @@ fn heavy_with(request: Request, weights: &[u8], a: u8, i: usize) -> bool
     false
 }
 
-// Whether demands i and j share no link and weigh more than `a` together, or do so with a third. `row` says who shares a link with i.
-fn heavy_pair(
-    request: Request,
-    row: &[bool; 200],
-    weights: &[u8],
-    a: u8,
-    i: usize,
-    j: usize,
-) -> bool
-    requires { ⌜ Weighable (view request) (now weights) ⌝ }
-    requires { ⌜ (i < j) × (j < view request .demandCount) × (now row ≡ meetingRow (view request .demands) i) ⌝ }
-    ensures { λ r. ⌜ r ≡ pairHeavy (problemOf (view request)) (now (weights .entry)) a (view request .demandCount) i j ⌝ }
+// Whether demands i and j share no link and weigh more than `a` together, or do so with a third.
+fn heavy_pair(words: &[u64; 200], weights: &[u8], a: u8, i: usize, j: usize) -> bool
+    requires { ⌜ (length (now weights) ≤ 200) × (i < j) × (j < length (now weights)) ⌝ }
+    ensures { λ r. ⌜ r ≡ pairHeavy (sharingIn (now (words .entry))) (now (weights .entry)) a (length (now (weights .entry))) i j ⌝ }
 {
-    let count = request.demand_count;
     let weight = weights[j];
     let pair = weights[i] as u16 + weight as u16;
-    if row[j] {
+    if share_bit(words[i], words[j]) {
         return false;
     }
     if weight == 0 {
@@ -116,26 +95,22 @@ fn heavy_pair(
     if (a as u16) < pair {
         return true;
     }
-    let demands = request.demands;
-    let other = meeting_row(demands, count, j);
-    heavy_third(row, &other, weights, a, pair, j + 1)
+    heavy_third(words, weights, a, i, j, pair)
 }
 
-// Whether a demand from this one on weighs too much with a pair: the two rows say who shares a link with one of them.
-fn heavy_third(
-    row: &[bool; 200],
-    other: &[bool; 200],
-    weights: &[u8],
-    a: u8,
-    pair: u16,
-    from: usize,
-) -> bool
-    requires { ⌜ (length (now weights) ≤ 200) × (pair ≤ 510) ⌝ }
-    ensures { λ r. ⌜ r ≡ thirdFrom (now (row .entry)) (now (other .entry)) (now (weights .entry)) a pair from (length (now (weights .entry)) - from) ⌝ }
+// Whether a demand behind these two weighs too much with them: it shares no link with either, and they weigh `pair`.
+fn heavy_third(words: &[u64; 200], weights: &[u8], a: u8, i: usize, j: usize, pair: u16) -> bool
+    requires { ⌜ (length (now weights) ≤ 200) × (i < j) × (j < length (now weights)) ⌝ }
+    requires { ⌜ (pair ≡ getD (now weights) i 0 + getD (now weights) j 0) × (pair ≤ 510) ⌝ }
+    ensures { λ r. ⌜ r ≡ heavyThree (sharingIn (now (words .entry))) (now (weights .entry)) a (length (now (weights .entry))) i j ⌝ }
 {
-    let mut k = from;
+    let word = words[i];
+    let other = words[j];
+    let mut k = j + 1;
     while k < weights.len() {
-        if too_heavy(row[k] | other[k], weights[k], pair, a) {
+        let third = words[k];
+        let shares = share_bit(word, third) | share_bit(other, third);
+        if too_heavy(shares, weights[k], pair, a) {
             return true;
         }
         k += 1;

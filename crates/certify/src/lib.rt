@@ -1,19 +1,21 @@
 // Certificates: a plan, and weights which prove that no plan ends below a certain end. Who found them, and how, does not matter.
 use certificate::check_certificate;
+use meeting::Compact;
+use meeting::compacted;
 use plan::CheckReply;
 use plan::check_starts;
 use refusal::Refusal;
 use request::Checked;
 use request::Request;
-use request::width_of;
 ghost use mathlib.Core.Path.{_≡_};
 ghost use Prim.Native.Nat.{_≤_, _<_};
-ghost use Rattle.theory.specs.Certificate.{certifiedEnd};
-ghost use Rattle.request.specs.declared.Checked.the-variants.{Sound};
+ghost use lib.ListN.{length};
+ghost use Rattle.theory.specs.Orders.{listing};
+ghost use Rattle.theory.specs.Certificate.{weighed, certifiedEnd};
 ghost use Rattle.request.specs.View.{view};
-ghost use Rattle.request.specs.Check.{check};
-ghost use Rattle.certify.specs.Reply.{certifyReply, certifiedWith, sumOf};
-ghost use Rattle.certify.specs.inner.Sets.{Weighable};
+ghost use Rattle.meeting.specs.inner.Small.{problemIn, Small};
+ghost use Rattle.certify.specs.Reply.{certifyReply, weightOf};
+ghost use Rattle.certify.specs.inner.Sets.{toldIn};
 
 mod certificate;
 
@@ -32,22 +34,23 @@ pub fn certify(request: Request, starts: &[u16], weights: &[u8], a: u8) -> Certi
 {
     let accepted = check_starts(request, starts);
     match accepted {
-        CheckReply::Accepted(end) => told_by(request, end, weights, a),
+        CheckReply::Accepted(end) => told_by(compacted(request), end, weights, a),
         CheckReply::Refused(why) => Certified::Refused(why),
     }
 }
 
 // What a certificate tells of an accepted plan that ends here.
-fn told_by(request: Request, end: u16, weights: &[u8], a: u8) -> Certified
-    requires { ⌜ check (view request) ≡ Sound ⌝ }
-    ensures { λ r. ⌜ r ≡ certifiedWith (view request) (now (weights .entry)) a end ⌝ }
+fn told_by(compact: Compact, end: u16, weights: &[u8], a: u8) -> Certified
+    requires { ⌜ Small compact ⌝ }
+    ensures { λ r. ⌜ r ≡ toldIn (problemIn compact) (compact .guard) (compact .count) (now (weights .entry)) a end ⌝ }
 {
-    let checked = check_certificate(request, weights, a);
+    let words = compact.words;
+    let checked = check_certificate(&words, compact.count, weights, a);
     if let Checked::Refused(why) = checked {
         return Certified::Refused(why);
     }
-    let sum = weighed_sum(request, weights);
-    let low = shared_out(sum, a as u32, request.band.guard as u32);
+    let sum = weighed_sum(compact, weights);
+    let low = shared_out(sum, a as u32, compact.guard as u32);
     if low == end as u32 {
         Certified::Best(end)
     } else {
@@ -56,17 +59,17 @@ fn told_by(request: Request, end: u16, weights: &[u8], a: u8) -> Certified
 }
 
 // The widths, each with its guard, as often as its demand weighs.
-fn weighed_sum(request: Request, weights: &[u8]) -> u32
-    requires { ⌜ Weighable (view request) (now weights) ⌝ }
-    ensures { λ r. ⌜ (r ≡ sumOf (view request) (now (weights .entry))) × (r < 100000000) ⌝ }
+fn weighed_sum(compact: Compact, weights: &[u8]) -> u32
+    requires { ⌜ Small compact ⌝ }
+    requires { ⌜ length (now weights) ≡ compact .count ⌝ }
+    ensures { λ r. ⌜ (r ≡ weighed (problemIn compact) (compact .guard) (weightOf (now (weights .entry))) (listing (compact .count))) × (r < 100000000) ⌝ }
 {
-    let count = request.demand_count;
-    let guard = request.band.guard as u32;
+    let count = compact.count;
+    let guard = compact.guard as u32;
     let mut sum: u32 = 0;
     let mut i: usize = 0;
     while i < count {
-        let demand = request.demands[i];
-        let width = width_of(demand);
+        let width = compact.widths[i];
         sum += weights[i] as u32 * (width as u32 + guard);
         i += 1;
     }

@@ -19,18 +19,23 @@ use Rattle.theory.specs.GroupWalkLaws.{orders-spread, unmarked-listing}
 use Rattle.theory.specs.inner.Grouped.{reach, below, unmarked}
 use Rattle.theory.specs.inner.Tried.{Lead, try, leadBy, endsAt, Leads, unbeaten, taken}
 use Rattle.theory.specs.TriedLaws.{try-leads}
-use Rattle.board.specs.inner.Standing.{OnBoard, Standing}
+use Rattle.board.specs.inner.Standing.{Standing}
 use Rattle.board.specs.BesideLaws.{standing-none}
-use Rattle.placing.specs.PlacementLaws.{clean-slate, on-board}
+use Rattle.placing.specs.PlacementLaws.{clean-slate}
 use Rattle.request.specs.View.{View}
 use Rattle.request.specs.Sound.{SoundRequest}
 use Rattle.request.specs.Sharing as sharing
+use Rattle.request.specs.inner.Limits.{Limits}
+use Rattle.meeting.specs.declared.Compact.{Compact}
+use Rattle.meeting.specs.Compact.{compactOf}
+use Rattle.meeting.specs.CompactLaws.{small-problem}
+use Rattle.meeting.specs.inner.Small.{problemIn, Small}
 use Rattle.search.specs.inner.Arrays.{problemOf}
 use Rattle.search.specs.inner.Told.{isMet}
 use Rattle.groups.specs.declared.BestOrder.{BestOrder}
 use Rattle.groups.specs.Reply.{grouped, orderTold}
 use Rattle.groups.specs.TableLaws.{table-problem, table-two-way}
-use Rattle.groups.specs.inner.Table.{MeetingTable, Widths, GroupStarts}
+use Rattle.groups.specs.inner.Table.{MeetingTable, GroupStarts}
 use Rattle.groups.specs.inner.Walk.{OnTable, Ready, Held, triedFrom, OrderFound}
 
 -- all orders below no path
@@ -43,15 +48,14 @@ reach-none : (P : Problem) (K M : ℕ) → reach P K M [] ≡ []
 unfolding members
 reach-none P K M = fill-nil P []
 
--- the arrays of a sound request are a table
-pub on-table : (v : View) (table : List (List Bool)) (widths : List ℕ) → SoundRequest v → MeetingTable v table → Widths v widths →
-    OnTable table widths (v .band .guard) (v .demandCount)
-on-table v table widths sound meets wide =
+-- the arrays of a request made small are a table
+pub on-table : (c : Compact) (table : List (List Bool)) → Small c → MeetingTable (c .words) table →
+    OnTable table (c .widths) (c .guard) (c .count)
+unfolding problemOf
+on-table c table small meets =
     record {
-      board =
-          subst (λ (P : Problem). OnBoard P (v .demandCount) (v .band .guard)) (sym (table-problem v table meets widths wide))
-          (on-board v sound);
-      two-way = table-two-way v table meets;
+      board = record { few = small .most-demands; wide = small .some-width; gaps = λ i j. refl };
+      two-way = table-two-way c table meets;
     }
 
 -- so the walk may begin
@@ -142,43 +146,38 @@ nothing-held P S K M =
       order-is = λ rows order e. absurd (let z : _≡_ {A = ℕ} 0 1 = cc in omega arith);
     }
 
--- what the walk of a request found
-pub order-found : (v : View) (M : ℕ) (table : List (List Bool)) (widths : List ℕ) (mark along : List ℕ) (best : BestOrder) →
-    1 ≤ M → MeetingTable v table → Widths v widths →
-    ((lead : Lead) → Held ((v .band .slots + 1) ∷ []) (replicate 8 0) lead →
-    Held mark along (triedFrom (problemOf table widths (v .band .guard)) (v .demandCount) M (replicate 8 false) (replicate 8 0) 0 0 lead)) →
-    best ≡ record { found = leb (getD mark 0 0) (v .band .slots); end = getD mark 0 0; order = along } → OrderFound v M best
-unfolding grouped
-order-found v M table widths mark along best some meets wide walked is =
-    record {
-      found-is =
-          ap (λ (b : BestOrder). b .found) is
-          ∙ mark-found P S K M mark along held
-          ∙ ap (λ (Q : Problem). isMet (theory.grouped Q S K M)) same;
-      end-is =
-          λ rows order e.
-          ap (λ (b : BestOrder). b .end) is
-          ∙ mark-ends P S K M mark along held rows order (ap (λ (Q : Problem). theory.grouped Q S K M) same ∙ e)
-          ∙ ap (λ (Q : Problem). top Q rows) same;
-      order-is =
-          λ rows order e.
-          ap (λ (b : BestOrder). b .order) is
-          ∙ along-is P S K M mark along held rows order (ap (λ (Q : Problem). theory.grouped Q S K M) same ∙ e);
-    }
+-- what the walk of a request made small found
+pub order-found : (c : Compact) (M : ℕ) (table : List (List Bool)) (mark along : List ℕ) (best : BestOrder) → 1 ≤ M → MeetingTable (c .words) table →
+    ((lead : Lead) → Held ((c .slots + 1) ∷ []) (replicate 8 0) lead →
+    Held mark along (triedFrom (problemOf table (c .widths) (c .guard)) (c .count) M (replicate 8 false) (replicate 8 0) 0 0 lead)) →
+    best ≡ record { found = leb (getD mark 0 0) (c .slots); end = getD mark 0 0; order = along } →
+    OrderFound (problemIn c) (theory.grouped (problemIn c) (c .slots) (c .count) M) best
+order-found c M table mark along best some meets walked is =
+    subst (λ (Q : Problem). OrderFound Q (theory.grouped Q S K M) best) (table-problem c table meets)
+    (record {
+      found-is = ap (λ (b : BestOrder). b .found) is ∙ mark-found P S K M mark along held;
+      end-is = λ rows order e. ap (λ (b : BestOrder). b .end) is ∙ mark-ends P S K M mark along held rows order e;
+      order-is = λ rows order e. ap (λ (b : BestOrder). b .order) is ∙ along-is P S K M mark along held rows order e;
+    })
   where
     P : Problem
-    P = problemOf table widths (v .band .guard)
+    P = problemOf table (c .widths) (c .guard)
 
     S : ℕ
-    S = v .band .slots
+    S = c .slots
 
     K : ℕ
-    K = v .demandCount
-
-    same : P ≡ sharing.problemOf v
-    same = table-problem v table meets widths wide
+    K = c .count
 
     held : Held mark along (try P (reach P K M) [] (orders (listing M)) (leadWith P S K M none-met))
     held =
         subst (Held mark along) (all-tried P K M (leadWith P S K M none-met) some)
         (walked (leadWith P S K M none-met) (nothing-held P S K M))
+
+-- what is found of a sound request made small is found of the request
+pub order-asked : (v : View) → SoundRequest v → Limits v → (M : ℕ) (best : BestOrder) →
+    OrderFound (problemIn (compactOf v)) (theory.grouped (problemIn (compactOf v)) (compactOf v .slots) (compactOf v .count) M) best →
+    OrderFound (sharing.problemOf v) (grouped v M) best
+unfolding compactOf grouped
+order-asked v sound limits M best so =
+    subst (λ (P : Problem). OrderFound P (theory.grouped P (v .band .slots) (v .demandCount) M) best) (small-problem v sound limits) so

@@ -1,9 +1,9 @@
 -- The arrays that the walk asks of a request: a row of who meets whom for each demand, and where the groups begin.
-use Prim.Native.Nat.{ℕ, zero, suc, _+_, _/_, _%_, _≤_, _<_}
+use Prim.Native.Nat.{ℕ, suc, _+_, _/_, _%_, _≤_, _<_}
 use mathlib.Core.Bool.{Bool, false, cond}
-use mathlib.Core.List.{List, [], _∷_}
+use mathlib.Core.List.{List, [], map}
 use mathlib.Core.Logic.{⊎-elim}
-use mathlib.Core.Path.{_≡_, refl, sym, ap, ap₂, subst, _∙_, fun-ext}
+use mathlib.Core.Path.{_≡_, refl, sym, ap, subst, _∙_, fun-ext}
 use native.Mathlib.Omega.{arith}
 use native.Mathlib.Nat.{div-add-mod', le-mul-of-pos-right}
 use lib.ListN.{length, getD, set, replicate, length-map, List·getD-eq-default}
@@ -13,88 +13,51 @@ use Rattle.theory.specs.Orders.{listing}
 use Rattle.theory.specs.ListingLaws.{listing-length}
 use Rattle.theory.specs.TriedLaws.{below-or-not}
 use Rattle.theory.specs.Groups.{groupSize, groupStart}
-use Rattle.theory.specs.GroupWalkLaws.{none-marked}
 use Rattle.theory.specs.GroupsLaws.{group-next, groups-whole, starts-below}
-use Rattle.request.specs.declared.Request.{Request}
-use Rattle.request.specs.View.{DemandView, View, view, demandAt}
-use Rattle.request.specs.ViewLaws.{demands-shown}
-use Rattle.request.specs.Sharing.{shareLink, problemOf}
+use Rattle.meeting.specs.declared.Compact.{Compact}
+use Rattle.meeting.specs.Compact.{shareBit, wordRow}
+use Rattle.meeting.specs.CompactLaws.{filled-whole, nobody-behind, bit-swap, row-empty, bit-entry}
+use Rattle.meeting.specs.MeetingLaws.{listing-at}
 use Rattle.meeting.specs.inner.Filling.{FilledTo}
-use Rattle.meeting.specs.FillingLaws.{filled-entry, unfilled-entry}
-use Rattle.meeting.specs.Row.{meetingRow}
-use Rattle.meeting.specs.MeetingLaws.{row-entry, joined-swap, joined-none}
-use Rattle.search.specs.inner.Arrays as arrays
-use Rattle.groups.specs.inner.Table.{MeetingTable, Widths}
+use Rattle.meeting.specs.inner.Small.{problemIn}
+use Rattle.search.specs.inner.Arrays.{problemOf}
+use Rattle.groups.specs.inner.Table.{MeetingTable}
 
--- an entry that stands in a list, whatever is read behind its end
-entry-there : {A : Type 0} (l : List A) (i : ℕ) (none other : A) → i < length l → getD l i none ≡ getD l i other
-entry-there [] i none other h = absurd (omega arith)
-entry-there (x ∷ l) zero none other h = refl
-entry-there (x ∷ l) (suc i) none other h = entry-there l i none other (omega arith)
-
--- a row is as long as the array
-row-long : (demands : List DemandView) (i : ℕ) → length (meetingRow demands i) ≡ 200
-unfolding meetingRow
-row-long demands i =
-    length-map (listing 200) (λ (j : ℕ). shareLink (demandAt demands j .route) (demandAt demands i .route)) ∙ listing-length 200
-
--- a request that lists at most 200 demands
-pub few-listed : (q : Request) → view q .demandCount ≤ 200 → q .«demand_count» ≤ 200
-unfolding view
-few-listed q h = h
-
-module _ (q : Request) (few : q .«demand_count» ≤ 200) where
-  -- a row says of every number what the request says: behind it there is no demand
-  row-says : (i j : ℕ) → getD (meetingRow (view q .demands) i) j false ≡ problemOf (view q) .joined i j
-  row-says i j =
+module _ (words : List ℕ) (few : length words ≤ 200) where
+  -- a row for each of 200 words says of any two numbers what the words say: behind them there is none
+  rows-say : (i j : ℕ) → getD (getD (map (wordRow words) (listing 200)) i []) j false ≡ shareBit (getD words i 0) (getD words j 0)
+  rows-say i j =
       ⊎-elim
-      (λ (low : j < 200). row-entry (view q) i j low ∙ joined-swap (view q) j i)
-      (λ (high : 200 ≤ j).
-      List·getD-eq-default (meetingRow (view q .demands) i) false {n = j} (omega (arith, row-long (view q .demands) i))
-      ∙ sym (joined-swap (view q) i j ∙ joined-none q j i (omega (arith, demands-shown q))))
-      (below-or-not j 200)
+      (λ (low : i < 200).
+      ap (λ (row : List Bool). getD row j false) (listing-at (wordRow words) 200 i [] low)
+      ∙ bit-entry words i j few ∙ bit-swap (getD words j 0) (getD words i 0))
+      (λ (high : 200 ≤ i).
+      ap (λ (row : List Bool). getD row j false)
+      (List·getD-eq-default (map (wordRow words) (listing 200)) [] {n = i} (omega (arith, length-map (listing 200) (wordRow words), listing-length 200)))
+      ∙ sym (nobody-behind words i (getD words j 0) (omega arith)))
+      (below-or-not i 200)
 
-  module _ (table : List (List Bool))
-      (so-far : FilledTo (List Bool) (meetingRow (view q .demands)) (replicate 200 false) 200 (q .«demand_count») table) where
-    -- a table with the rows of all demands has what is to be read: their rows, and none behind them
-    table-row : (i j : ℕ) → i < 200 → getD (getD table i (replicate 200 false)) j false ≡ problemOf (view q) .joined i j
-    table-row i j there =
-        ⊎-elim
-        (λ (low : i < q .«demand_count»).
-        ap (λ (row : List Bool). getD row j false)
-        (filled-entry (List Bool) (meetingRow (view q .demands)) (replicate 200 false) 200 (q .«demand_count») table so-far i there low)
-        ∙ row-says i j)
-        (λ (high : q .«demand_count» ≤ i).
-        ap (λ (row : List Bool). getD row j false)
-        (unfilled-entry (List Bool) (meetingRow (view q .demands)) (replicate 200 false) 200 (q .«demand_count») table so-far i there high)
-        ∙ none-marked 200 j ∙ sym (joined-none q i j (omega (arith, demands-shown q))))
-        (below-or-not i (q .«demand_count»))
+  -- so does a table with the rows of all demands, where the others have no word
+  pub table-whole : (K : ℕ) (table : List (List Bool)) → ((i : ℕ) → K ≤ i → getD words i 0 ≡ 0) →
+      FilledTo (List Bool) (wordRow words) (replicate 200 false) 200 K table → MeetingTable words table
+  table-whole K table behind so-far =
+      record {
+        entry = λ (i j : ℕ).
+            ap (λ (t : List (List Bool)). getD (getD t i []) j false)
+            (filled-whole (List Bool) (wordRow words) (replicate 200 false) 200 K table so-far (λ k h l. sym (row-empty words k (behind k h))))
+            ∙ rows-say i j;
+      }
 
-    pub table-whole : MeetingTable (view q) table
-    table-whole =
-        record {
-          entry = λ (i j : ℕ).
-              ⊎-elim
-              (λ (low : i < 200).
-              ap (λ (row : List Bool). getD row j false) (entry-there table i [] (replicate 200 false) (omega (arith, so-far .full)))
-              ∙ table-row i j low)
-              (λ (high : 200 ≤ i).
-              ap (λ (row : List Bool). getD row j false) (List·getD-eq-default table [] {n = i} (omega (arith, so-far .full)))
-              ∙ sym (joined-none q i j (omega (arith, demands-shown q))))
-              (below-or-not i 200);
-        }
-
-module _ (v : View) (table : List (List Bool)) (meets : MeetingTable v table) where
+module _ (c : Compact) (table : List (List Bool)) (meets : MeetingTable (c .words) table) where
   -- such a table reads alike both ways
   pub table-two-way : (i j : ℕ) → getD (getD table i []) j false ≡ getD (getD table j []) i false
-  table-two-way i j = meets .entry i j ∙ joined-swap v i j ∙ sym (meets .entry j i)
+  table-two-way i j = meets .entry i j ∙ bit-swap (getD (c .words) i 0) (getD (c .words) j 0) ∙ sym (meets .entry j i)
 
-  -- with the widths it is the request's problem
-  pub table-problem : (widths : List ℕ) → Widths v widths → arrays.problemOf table widths (v .band .guard) ≡ problemOf v
-  unfolding arrays.problemOf problemOf
-  table-problem widths wide =
-      ap₂ (λ (w : ℕ → ℕ) (j : ℕ → ℕ → Bool). record { width = w; joined = j; gap = λ (i j : ℕ). v .band .guard })
-      (fun-ext (wide .entry))
+  -- with the widths it is the problem posed
+  pub table-problem : problemOf table (c .widths) (c .guard) ≡ problemIn c
+  unfolding problemOf problemIn
+  table-problem =
+      ap (λ (j : ℕ → ℕ → Bool). record { width = λ (i : ℕ). getD (c .widths) i 0; joined = j; gap = λ (i j : ℕ). c .guard })
       (fun-ext (λ (i : ℕ). fun-ext (meets .entry i)))
 
 module _ (K M g : ℕ) where

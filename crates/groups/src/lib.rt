@@ -1,5 +1,6 @@
 // Whole groups: the listing cut into consecutive groups, and first fit along every order of these. It is for lists too long to search.
 use lent::check_rooms;
+use meeting::compacted;
 use order::members_of;
 use placing::first_fit;
 use refusal::Refusal;
@@ -55,7 +56,8 @@ pub fn groups(request: Request, m: usize, starts: &mut [u16], blockers: &mut [u1
             order: [0u16; 8],
         };
     }
-    let best = best_order(request, m);
+    let compact = compacted(request);
+    let best = best_order(compact, m);
     let found = best.found;
     if !found {
         return GroupsReply {

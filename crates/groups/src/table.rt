@@ -1,44 +1,25 @@
-// What the walk asks of a request, worked out once: who meets whom, how wide each is, and where the groups begin.
-use meeting::meeting_row;
-use request::Request;
-use request::width_of;
+// What the walk asks of a request, worked out once: who meets whom, and where the groups begin.
+use meeting::word_row;
 ghost use mathlib.Core.Path.{_≡_};
-ghost use Prim.Native.Nat.{_≤_};
-ghost use Rattle.request.specs.View.{view};
+ghost use Prim.Native.Nat.{ℕ, _≤_};
+ghost use lib.ListN.{getD};
 ghost use Rattle.theory.specs.Groups.{groupSize};
-ghost use Rattle.groups.specs.inner.Table.{MeetingTable, Widths, GroupStarts};
+ghost use Rattle.groups.specs.inner.Table.{MeetingTable, GroupStarts};
 
-// Who shares a link with whom, a row for each demand.
-pub(crate) fn meeting_table(request: Request) -> [[bool; 200]; 200]
-    requires { ⌜ view request .demandCount ≤ 200 ⌝ }
-    ensures { λ r. ⌜ MeetingTable (view request) r ⌝ }
+// Who shares a link with whom, by the words of the routes, a row for each demand.
+pub(crate) fn meeting_table(words: [u64; 200], count: usize) -> [[bool; 200]; 200]
+    requires { ⌜ count ≤ 200 ⌝ }
+    requires { ⌜ ((i : ℕ) → count ≤ i → getD words i 0 ≡ 0) ⌝ }
+    ensures { λ r. ⌜ MeetingTable words r ⌝ }
 {
     let mut table = [[false; 200]; 200];
-    let count = request.demand_count;
     let mut i: usize = 0;
     while i < count {
-        let demands = request.demands;
-        let row = meeting_row(demands, count, i);
+        let row = word_row(words, i);
         table[i] = row;
         i += 1;
     }
     table
-}
-
-// How wide the demands are.
-pub(crate) fn all_widths(request: Request) -> [u16; 200]
-    requires { ⌜ view request .demandCount ≤ 200 ⌝ }
-    ensures { λ r. ⌜ Widths (view request) r ⌝ }
-{
-    let mut widths = [0u16; 200];
-    let count = request.demand_count;
-    let mut i: usize = 0;
-    while i < count {
-        let demand = request.demands[i];
-        widths[i] = width_of(demand);
-        i += 1;
-    }
-    widths
 }
 
 // How many demands group g has: the first ones have one more, where the demands do not come out even.

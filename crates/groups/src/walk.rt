@@ -1,20 +1,20 @@
 // The walk over the orders of the groups: a tree, depth first. The groups placed so far keep their starts while those after them change.
 use crate::BestOrder;
-use crate::table::all_widths;
 use crate::table::group_starts;
 use crate::table::meeting_table;
 use board::Spot;
 use board::lowest_spot;
-use request::Request;
+use meeting::Compact;
 ghost use mathlib.Core.Path.{_≡_};
 ghost use mathlib.Core.List.{List};
-ghost use Prim.Native.Nat.{ℕ, _≤_, _<_, max};
+ghost use Prim.Native.Nat.{_≤_, _<_, max};
 ghost use lib.ListN.{getD, length};
 ghost use Rattle.theory.specs.Problem.{Row};
 ghost use Rattle.theory.specs.inner.Tried.{Lead};
-ghost use Rattle.request.specs.View.{view};
+ghost use Rattle.theory.specs.Groups as theory;
+ghost use Rattle.meeting.specs.inner.Small.{problemIn, Small};
 ghost use Rattle.search.specs.inner.Arrays.{problemOf};
-ghost use Rattle.groups.specs.inner.Walk.{OnTable, GroupAsked, GroupTried, Groupable, Ready, Held, triedGroup, triedFrom, OrderFound};
+ghost use Rattle.groups.specs.inner.Walk.{OnTable, GroupAsked, GroupTried, Ready, Held, triedGroup, triedFrom, OrderFound};
 
 // The higher of two slots.
 fn higher(a: u16, b: u16) -> u16
@@ -208,13 +208,16 @@ fn try_groups(
 }
 
 // The best order of the groups of a request that passed its tests.
-pub(crate) fn best_order(request: Request, m: usize) -> BestOrder
-    requires { ⌜ Groupable (view request) m ⌝ }
-    ensures { λ r. ⌜ OrderFound (view request) m r ⌝ }
+pub(crate) fn best_order(compact: Compact, m: usize) -> BestOrder
+    requires { ⌜ Small compact ⌝ }
+    requires { ⌜ (1 ≤ m) × (m ≤ 8) × (m ≤ compact .count) ⌝ }
+    ensures { λ r. ⌜ OrderFound (problemIn compact) (theory.grouped (problemIn compact) (compact .slots) (compact .count) m) r ⌝ }
 {
-    let count = request.demand_count;
-    let slots = request.band.slots;
-    let guard = request.band.guard as u16;
+    let count = compact.count;
+    let slots = compact.slots;
+    let guard = compact.guard as u16;
+    let words = compact.words;
+    let widths = compact.widths;
     let first = group_starts(count, m);
     let used = [false; 8];
     let order = [0u16; 8];
@@ -223,8 +226,8 @@ pub(crate) fn best_order(request: Request, m: usize) -> BestOrder
     let mut mark = [slots + 1];
     let mut along = [0u16; 8];
     try_groups(
-        &meeting_table(request),
-        &all_widths(request),
+        &meeting_table(words, count),
+        &widths,
         guard,
         count,
         &first,

@@ -44,3 +44,8 @@ demand-at q k h = demand-shown q k (omega (arith, demands-shown q))
 pub demand-none : (demands : List DemandView) (k : ℕ) → length demands ≤ k → demandAt demands k ≡ noDemand
 unfolding demandAt
 demand-none demands k h = List·getD-eq-default demands noDemand {n = k} h
+
+-- as many are asked of a request as it shows
+pub asked-shown : (q : Request) {r : ℕ} → DemandCount (q .«demand_count») r → length (q .demands) ≡ 200 → r ≡ length (view q .demands)
+unfolding view
+asked-shown q asked full = asked .counts (q .demands) full

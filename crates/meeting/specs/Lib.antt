@@ -5,9 +5,11 @@ pub mod FillingLaws
 pub mod Row
 pub mod AskedLaws
 pub mod MeetingLaws
+pub mod Compact
 pub mod WordLaws
 pub mod Bound
 pub mod NeedLaws
+pub mod CompactLaws
 pub mod PlanEndLaws
 pub mod BoundLaws
 pub mod Reply

@@ -10,8 +10,7 @@ use lib.ListN.{length, getD, take, drop, set, replicate, length-replicate, lengt
 use lib.Seq.{take-suc, take-all, drop-cons, getD-take, ext-getD, getD-set-same, getD-set-other}
 use borrow.Author.Tests.{eqb-true, eqb-false, ltb-true, ltb-false}
 use Rattle.request.specs.declared.Demand.{Demand}
-use Rattle.request.specs.declared.Request.{Request}
-use Rattle.request.specs.View.{View, viewDemand, view, noDemand, demandAt, noEntry, DemandView}
+use Rattle.request.specs.View.{View, viewDemand, noDemand, demandAt, noEntry, DemandView}
 use Rattle.request.specs.ViewLaws.{map-at}
 use Rattle.request.specs.Check.{has}
 use Rattle.theory.specs.TestLaws.{by-test}
@@ -129,11 +128,6 @@ joined-at demands count j i hj hi = rw (demand-in demands count j hj, demand-in 
 shared-none : (demands : List DemandView) (j : ℕ) (route : List ℕ) → length demands ≤ j → shareLink (demandAt demands j .route) route ≡ false
 unfolding shareLink noDemand
 shared-none demands j route h = rw (demand-none demands j h)
-
--- so it is in a request's problem
-pub joined-none : (q : Request) (j i : ℕ) → length (view q .demands) ≤ j → problemOf (view q) .joined j i ≡ false
-unfolding problemOf
-joined-none q j i h = shared-none (view q .demands) j (demandAt (view q .demands) i .route) h
 
 -- sharing a link goes both ways
 pub joined-swap : (v : View) (i j : ℕ) → problemOf v .joined i j ≡ problemOf v .joined j i

@@ -5,32 +5,27 @@ use mathlib.Core.Path.{_≡_, refl}
 use native.Mathlib.Omega.{arith}
 use native.Mathlib.Nat.{mul-le-mul-left}
 use native.Mathlib.Numerals.{add-one}
-use lib.ListN.{length, getD, drop, drop-of-length-le}
+use lib.ListN.{length, drop, drop-of-length-le}
 use lib.Seq.{drop-cons}
-use Rattle.request.specs.declared.Request.{Request}
-use Rattle.request.specs.View.{View, viewDemand, view, noDemand, demandAt, noEntry, widthOf}
+use Rattle.request.specs.View.{View, noDemand, demandAt, widthOf}
 use Rattle.request.specs.Check.{has}
 use Rattle.meeting.specs.Bound.{widthOn, demandsOn, linkBound, boundOver}
-use Rattle.meeting.specs.AskedLaws.{demand-at}
 use Rattle.meeting.specs.inner.Need.{NeedTo}
 
 -- at the start nothing is summed up
 pub need-none : (v : View) (link : ℕ) → NeedTo v link 0 0 0
 need-none v link = record { widths-on = omega arith; users-on = omega arith; widths-fit = omega arith; users-fit = omega arith }
 
-module _ (q : Request) (link j widths users : ℕ) (h : j < length (view q .demands))
-    (so-far : NeedTo (view q) link j widths users) where
+module _ (v : View) (link j widths users : ℕ) (h : j < length (v .demands)) (so-far : NeedTo v link j widths users) where
   -- a demand on the link counts
-  pub need-on : (more with-it : ℕ) → has link (viewDemand (getD (q .demands) j noEntry) .route) ≡ true →
-      widthOf (viewDemand (getD (q .demands) j noEntry)) < 65536 → more ≡ widths + widthOf (viewDemand (getD (q .demands) j noEntry)) → with-it ≡ users + 1 →
-      NeedTo (view q) link (j + 1) more with-it
-  unfolding widthOn demandsOn demandAt viewDemand
+  pub need-on : (more with-it : ℕ) → has link (demandAt (v .demands) j .route) ≡ true → widthOf (demandAt (v .demands) j) < 65536 →
+      more ≡ widths + widthOf (demandAt (v .demands) j) → with-it ≡ users + 1 → NeedTo v link (j + 1) more with-it
+  unfolding widthOn demandsOn demandAt
   need-on more with-it on low e u =
-      let here : demandAt (view q .demands) j ≡ viewDemand (getD (q .demands) j noEntry) = demand-at q j h in
-      let width-here : widthOn link (drop j (view q .demands)) ≡ widthOf (viewDemand (getD (q .demands) j noEntry)) + widthOn link (drop (j + 1) (view q .demands))
-      = rw (add-one, drop-cons (view q .demands) j noDemand h, here, on) in
-      let user-here : demandsOn link (drop j (view q .demands)) ≡ 1 + demandsOn link (drop (j + 1) (view q .demands))
-      = rw (add-one, drop-cons (view q .demands) j noDemand h, here, on) in
+      let width-here : widthOn link (drop j (v .demands)) ≡ widthOf (demandAt (v .demands) j) + widthOn link (drop (j + 1) (v .demands))
+      = rw (add-one, drop-cons (v .demands) j noDemand h, on) in
+      let user-here : demandsOn link (drop j (v .demands)) ≡ 1 + demandsOn link (drop (j + 1) (v .demands))
+      = rw (add-one, drop-cons (v .demands) j noDemand h, on) in
       record {
         widths-on = omega (arith, so-far .widths-on);
         users-on = omega (arith, so-far .users-on);
@@ -39,15 +34,14 @@ module _ (q : Request) (link j widths users : ℕ) (h : j < length (view q .dema
       }
 
   -- another does not
-  pub need-off : (same as-many : ℕ) → has link (viewDemand (getD (q .demands) j noEntry) .route) ≡ false →
-      same ≡ widths → as-many ≡ users → NeedTo (view q) link (j + 1) same as-many
+  pub need-off : (same as-many : ℕ) → has link (demandAt (v .demands) j .route) ≡ false → same ≡ widths → as-many ≡ users →
+      NeedTo v link (j + 1) same as-many
   unfolding widthOn demandsOn demandAt
   need-off same as-many off e u =
-      let here : demandAt (view q .demands) j ≡ viewDemand (getD (q .demands) j noEntry) = demand-at q j h in
-      let width-here : widthOn link (drop j (view q .demands)) ≡ widthOn link (drop (j + 1) (view q .demands))
-      = rw (add-one, drop-cons (view q .demands) j noDemand h, here, off) in
-      let user-here : demandsOn link (drop j (view q .demands)) ≡ demandsOn link (drop (j + 1) (view q .demands))
-      = rw (add-one, drop-cons (view q .demands) j noDemand h, here, off) in
+      let width-here : widthOn link (drop j (v .demands)) ≡ widthOn link (drop (j + 1) (v .demands))
+      = rw (add-one, drop-cons (v .demands) j noDemand h, off) in
+      let user-here : demandsOn link (drop j (v .demands)) ≡ demandsOn link (drop (j + 1) (v .demands))
+      = rw (add-one, drop-cons (v .demands) j noDemand h, off) in
       record {
         widths-on = omega (arith, so-far .widths-on);
         users-on = omega (arith, so-far .users-on);

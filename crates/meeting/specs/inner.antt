@@ -2,4 +2,5 @@
 pub mod Filling
 pub mod Meeting
 pub mod Need
+pub mod Small
 pub mod Word

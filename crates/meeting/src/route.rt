@@ -1,4 +1,5 @@
 // Routes: the first entries of a demand's array, and a route as one word, with a bit for each link that stands in it.
+use crate::words::share_bit;
 use request::Demand;
 use request::Request;
 ghost use mathlib.Core.Path.{_≡_};
@@ -6,7 +7,8 @@ ghost use Rattle.request.specs.View.{viewDemand};
 ghost use Rattle.request.specs.Check.{has};
 ghost use Rattle.request.specs.Sharing.{shareLink};
 ghost use Rattle.meeting.specs.inner.Meeting.{RouteLength};
-ghost use Rattle.meeting.specs.inner.Word.{WordOf, allLow, linkBit};
+ghost use Rattle.meeting.specs.Compact.{linkBit};
+ghost use Rattle.meeting.specs.inner.Word.{WordOf, allLow};
 
 // How many links of a demand's array are its route.
 fn route_length(demand: Demand) -> usize
@@ -21,7 +23,7 @@ fn route_length(demand: Demand) -> usize
 }
 
 // The bit of a link in a word: a link of 64 or more has none.
-fn link_bit(link: u8) -> u64
+pub(crate) fn link_bit(link: u8) -> u64
     ensures { λ r. ⌜ r ≡ linkBit link ⌝ }
 {
     if link < 64 { 1u64 << link } else { 0 }
@@ -80,7 +82,7 @@ pub(crate) fn share_word(demand: Demand, other: Demand, word: u64, whole: bool) 
     ensures { λ r. ⌜ r ≡ shareLink (viewDemand demand .route) (viewDemand other .route) ⌝ }
 {
     if whole {
-        return route_word(demand) & word != 0;
+        return share_bit(route_word(demand), word);
     }
     share_by_link(demand, other)
 }
@@ -93,7 +95,7 @@ pub fn share_link(demand: Demand, other: Demand) -> bool
 }
 
 // Whether a link stands in a demand's route.
-pub(crate) fn on_link(demand: Demand, link: usize) -> bool
+fn on_link(demand: Demand, link: usize) -> bool
     ensures { λ r. ⌜ r ≡ has link (viewDemand demand .route) ⌝ }
 {
     let hops = route_length(demand);

@@ -132,7 +132,7 @@ front-given of K at few full given =
     getD-take K at j 0 low ∙ given j (omega arith) ∙ sym (listing-at of K j 0 low))
 
 module _ (v : View) (out : Fitted) (rows : List Row) (at by : List ℕ) (few : v .demandCount ≤ 200) (all : out ≡ placed rows)
-    (kept : PlanKept v out at by) where
+    (kept : PlanKept (problemOf v) out at by) where
   -- written to the front of the buffer they are the starts after the fitting
   pub starts-fitted : (starts : List ℕ) → v .demandCount ≤ length starts →
       over (take (length starts) (take (v .demandCount) at)) starts ≡ fittedStarts (v .demandCount) out starts

@@ -2,6 +2,7 @@
 use fit::place_all;
 use lent::check_rooms;
 use lent::write_front;
+use meeting::compacted;
 use order::check_order;
 use refusal::Refusal;
 use request::Checked;
@@ -43,10 +44,11 @@ pub fn first_fit(
     if let Checked::Refused(why) = checked {
         return PlacedReply::Refused(why);
     }
+    let compact = compacted(request);
     let count = request.demand_count;
     let mut at = [0u16; 200];
     let mut by = [65535u16; 200];
-    let reply = place_all(request, order, &mut at, &mut by);
+    let reply = place_all(compact, order, &mut at, &mut by);
     match reply {
         PlacedReply::Placed(end) => {
             write_front(&at[..count], starts);

@@ -144,12 +144,6 @@ module _ (v : View) (starts : List ℕ) where
       then-sound (checkCount (v .demandCount) starts) (checkPlaces v starts)
       (passes-unless (ltb (length starts) (v .demandCount)) (NoRow (length starts)) (le-ltb (length starts) (v .demandCount) enough))
 
-  -- where 17 refuses, that is it
-  pub ends-refuse : (why : Refusal) → checkEnds (v .band .slots) starts 0 (v .demands) ≡ Refused why → checkPlaces v starts ≡ Refused why
-  unfolding checkPlaces
-  ends-refuse why h =
-      then-refused (checkEnds (v .band .slots) starts 0 (v .demands)) (checkClashes (problemOf v) starts [] 0 (v .demands)) why h
-
   -- where 17 passes, 18 decides
   pub clashes-decide : checkEnds (v .band .slots) starts 0 (v .demands) ≡ Sound →
       checkPlaces v starts ≡ checkClashes (problemOf v) starts [] 0 (v .demands)

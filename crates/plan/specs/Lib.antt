@@ -2,6 +2,7 @@
 pub mod CheckStarts
 pub mod CheckStartsLaws
 pub mod TurnLaws
+pub mod SmallLaws
 pub mod Acceptable
 pub mod AcceptableLaws
 pub mod inner

@@ -1,86 +1,88 @@
 -- The checks of starts and the plan's end, listing position by listing position.
 use Prim.Native.Nat.{ℕ, suc, _+_, _-_, _≤_, _<_, max}
 use mathlib.Core.Bool.{Bool, true, false, cond, _&&_}
-use mathlib.Core.List.{List}
+use mathlib.Core.List.{List, []}
 use mathlib.Core.Path.{_≡_, refl, ap, subst, _∙_}
 use native.Mathlib.Omega.{arith}
 use native.Mathlib.Numerals.{add-one}
-use lib.ListN.{length, drop, drop-of-length-le}
-use lib.Seq.{drop-cons}
+use lib.ListN.{getD}
 use lib.Dec.{ltb}
 use borrow.Author.Tests.{ltb-true, lt-ltb, le-leb, lt-leb}
 use Rattle.refusal.specs.declared.Refusal.the-variants.{EndAbove, Clash}
-use Rattle.theory.specs.Problem.{Problem, endOf, apart, fits}
+use Rattle.grid.specs.Grid.{endWithin}
+use Rattle.theory.specs.Problem.{Problem, endOf, apart, fits, top, planEnd}
+use Rattle.theory.specs.Orders.{countUp}
 use Rattle.theory.specs.ApartLaws.{clash-facts, clash-from}
 use Rattle.theory.specs.TestLaws.{not-false-true, not-both, and-first, and-second, and-both}
+use Rattle.request.specs.declared.Checked.{Checked}
 use Rattle.request.specs.declared.Checked.the-variants.{Sound, Refused}
-use Rattle.request.specs.View.{DemandView, View, demandAt, noDemand, widthOf}
 use Rattle.request.specs.Check.{then, must}
-use Rattle.request.specs.CheckLaws.{then-sound, then-refused}
-use Rattle.request.specs.Sharing.{shareLink, problemOf}
-use Rattle.meeting.specs.Plan.{startAt, endFrom}
-use Rattle.plan.specs.CheckStarts.{checkEnd, checkEnds, checkClash, checkClashes}
-use Rattle.plan.specs.inner.Rows.{rowsBefore, tooClose}
+use Rattle.meeting.specs.declared.Compact.{Compact}
+use Rattle.meeting.specs.Compact.{shareBit}
+use Rattle.meeting.specs.inner.Small.{problemIn}
+use Rattle.meeting.specs.Plan.{startAt}
+use Rattle.plan.specs.CheckStarts.{checkClash}
+use Rattle.plan.specs.inner.Rows.{rowsBefore, tooClose, endsFrom, clashesFrom}
 
-module _ (S : ℕ) (starts : List ℕ) (demands : List DemandView) (k : ℕ) where
+-- at a position before the last there is one more to look at
+one-more : (n k : ℕ) → k < n → n - k ≡ suc (n - (k + 1))
+one-more n k h = omega arith
+
+-- at the last there is none
+no-more : (n k : ℕ) → n ≤ k → n - k ≡ 0
+no-more n k h = omega arith
+
+module _ (P : Problem) (S : ℕ) (starts : List ℕ) (n k : ℕ) where
+  -- what 17 says of a demand
+  abbrev ends-here : Bool → Checked
+  ends-here b = then (must b (EndAbove k)) (endsFrom P S starts (k + 1) (n - (k + 1)))
+
   -- 17 from a position on: at the demand there, then behind it
-  ends-turn : k < length demands →
-      checkEnds S starts k (drop k demands) ≡ then (checkEnd S starts k (demandAt demands k)) (checkEnds S starts (k + 1) (drop (k + 1) demands))
-  unfolding checkEnds demandAt
-  ends-turn h = rw (drop-cons demands k noDemand h, add-one k)
+  ends-turn : k < n → endsFrom P S starts k (n - k) ≡ ends-here (endWithin S (startAt starts k) (P .width k))
+  unfolding endsFrom
+  ends-turn h = ap (endsFrom P S starts k) (one-more n k h)
 
   -- an end within the band passes, and the next is looked at
-  pub end-passes : k < length demands → startAt starts k + widthOf (demandAt demands k) ≤ S →
-      checkEnds S starts k (drop k demands) ≡ checkEnds S starts (k + 1) (drop (k + 1) demands)
-  unfolding checkEnd must
-  end-passes h within =
-      ends-turn h ∙ then-sound (checkEnd S starts k (demandAt demands k)) (checkEnds S starts (k + 1) (drop (k + 1) demands))
-      (ap (λ (b : Bool). cond b Sound (Refused (EndAbove k))) (le-leb (startAt starts k + widthOf (demandAt demands k)) S within))
+  pub end-passes : k < n → startAt starts k + P .width k ≤ S → endsFrom P S starts k (n - k) ≡ endsFrom P S starts (k + 1) (n - (k + 1))
+  unfolding then must
+  end-passes h within = ends-turn h ∙ ap ends-here (le-leb (startAt starts k + P .width k) S within)
 
   -- an end above it is refused with 17
-  pub end-refused : k < length demands → S < startAt starts k + widthOf (demandAt demands k) →
-      checkEnds S starts k (drop k demands) ≡ Refused (EndAbove k)
-  unfolding checkEnd must
-  end-refused h above =
-      ends-turn h ∙ then-refused (checkEnd S starts k (demandAt demands k)) (checkEnds S starts (k + 1) (drop (k + 1) demands)) (EndAbove k)
-      (ap (λ (b : Bool). cond b Sound (Refused (EndAbove k))) (lt-leb (startAt starts k + widthOf (demandAt demands k)) S above))
+  pub end-refused : k < n → S < startAt starts k + P .width k → endsFrom P S starts k (n - k) ≡ Refused (EndAbove k)
+  unfolding then must
+  end-refused h above = ends-turn h ∙ ap ends-here (lt-leb (startAt starts k + P .width k) S above)
 
   -- behind the last demand all ends have passed
-  pub ends-done : length demands ≤ k → checkEnds S starts k (drop k demands) ≡ Sound
-  unfolding checkEnds
-  ends-done h = rw (drop-of-length-le demands h)
+  pub ends-done : n ≤ k → endsFrom P S starts k (n - k) ≡ Sound
+  unfolding endsFrom
+  ends-done h = ap (endsFrom P S starts k) (no-more n k h)
 
-module _ (P : Problem) (starts : List ℕ) (demands : List DemandView) (k : ℕ) where
+module _ (P : Problem) (starts : List ℕ) (n k : ℕ) where
+  -- what 18 says of a demand
+  abbrev clear-here : Bool → Checked
+  clear-here b = then (cond b Sound (Refused (Clash k))) (clashesFrom P starts (k + 1) (n - (k + 1)))
+
   -- 18 from a position on: at the demand there, then behind it
-  clashes-turn : k < length demands →
-      checkClashes P starts (rowsBefore starts k) k (drop k demands) ≡
-      then (checkClash P starts (rowsBefore starts k) k) (checkClashes P starts (rowsBefore starts (k + 1)) (k + 1) (drop (k + 1) demands))
-  unfolding checkClashes rowsBefore
-  clashes-turn h = rw (drop-cons demands k noDemand h, add-one k)
+  clashes-turn : k < n → clashesFrom P starts k (n - k) ≡ clear-here (fits P (rowsBefore starts k) k (startAt starts k))
+  unfolding clashesFrom checkClash
+  clashes-turn h = ap (clashesFrom P starts k) (one-more n k h)
 
   -- a demand clear of all before it passes, and the next is looked at
-  pub clear-passes : k < length demands → fits P (rowsBefore starts k) k (startAt starts k) ≡ true →
-      checkClashes P starts (rowsBefore starts k) k (drop k demands) ≡
-      checkClashes P starts (rowsBefore starts (k + 1)) (k + 1) (drop (k + 1) demands)
-  unfolding checkClash
-  clear-passes h clear =
-      clashes-turn h ∙ then-sound (checkClash P starts (rowsBefore starts k) k)
-      (checkClashes P starts (rowsBefore starts (k + 1)) (k + 1) (drop (k + 1) demands))
-      (ap (λ (b : Bool). cond b Sound (Refused (Clash k))) clear)
+  pub clear-passes : k < n → fits P (rowsBefore starts k) k (startAt starts k) ≡ true →
+      clashesFrom P starts k (n - k) ≡ clashesFrom P starts (k + 1) (n - (k + 1))
+  unfolding then
+  clear-passes h clear = clashes-turn h ∙ ap clear-here clear
 
   -- a demand that clashes with one before it is refused with 18
-  pub clash-refused : k < length demands → fits P (rowsBefore starts k) k (startAt starts k) ≡ false →
-      checkClashes P starts (rowsBefore starts k) k (drop k demands) ≡ Refused (Clash k)
-  unfolding checkClash
-  clash-refused h clash =
-      clashes-turn h ∙ then-refused (checkClash P starts (rowsBefore starts k) k)
-      (checkClashes P starts (rowsBefore starts (k + 1)) (k + 1) (drop (k + 1) demands)) (Clash k)
-      (ap (λ (b : Bool). cond b Sound (Refused (Clash k))) clash)
+  pub clash-refused : k < n → fits P (rowsBefore starts k) k (startAt starts k) ≡ false →
+      clashesFrom P starts k (n - k) ≡ Refused (Clash k)
+  unfolding then
+  clash-refused h clash = clashes-turn h ∙ ap clear-here clash
 
   -- behind the last demand none has clashed
-  pub clashes-done : length demands ≤ k → checkClashes P starts (rowsBefore starts k) k (drop k demands) ≡ Sound
-  unfolding checkClashes
-  clashes-done h = rw (drop-of-length-le demands h)
+  pub clashes-done : n ≤ k → clashesFrom P starts k (n - k) ≡ Sound
+  unfolding clashesFrom
+  clashes-done h = ap (clashesFrom P starts k) (no-more n k h)
 
 module _ (P : Problem) (starts : List ℕ) (j i s : ℕ) (some : 0 < j) where
   -- the rows before a position, from the last down: the last one, then those before it
@@ -103,49 +105,45 @@ pub row-none : (P : Problem) (starts : List ℕ) (i s : ℕ) → fits P (rowsBef
 unfolding fits rowsBefore
 row-none P starts i s = refl
 
-module _ (starts : List ℕ) (demands : List DemandView) (k : ℕ) where
+module _ (P : Problem) (plan : ℕ → ℕ) (n k : ℕ) where
   -- the end from a position on: the larger of the demand's there and of those behind it
-  pub end-turn : k < length demands →
-      endFrom starts k (drop k demands) ≡ max (startAt starts k + widthOf (demandAt demands k)) (endFrom starts (k + 1) (drop (k + 1) demands))
-  unfolding endFrom demandAt
-  end-turn h = rw (drop-cons demands k noDemand h, add-one k)
+  pub end-turn : k < n →
+      planEnd P [] (countUp (n - k) k) plan ≡ max (plan k + P .width k) (planEnd P [] (countUp (n - (k + 1)) (k + 1)) plan)
+  unfolding planEnd countUp endOf
+  end-turn h = rw (one-more n k h, add-one k)
 
   -- behind the last demand there is no end
-  pub end-done : length demands ≤ k → endFrom starts k (drop k demands) ≡ 0
-  unfolding endFrom
-  end-done h = rw (drop-of-length-le demands h)
+  pub end-done : n ≤ k → planEnd P [] (countUp (n - k) k) plan ≡ 0
+  unfolding planEnd countUp top
+  end-done h = rw (no-more n k h)
 
-module _ (v : View) (i s j t : ℕ) where
+module _ (c : Compact) (i s j t : ℕ) where
+  -- where two demands end, the guard included, and whether they share a link
+  abbrev end : ℕ
+  end = s + getD (c .widths) i 0 + c .guard
+
+  abbrev other : ℕ
+  other = t + getD (c .widths) j 0 + c .guard
+
+  abbrev share : Bool
+  share = shareBit (getD (c .words) i 0) (getD (c .words) j 0)
+
   -- two demands that stand too close and share a link clash
-  pub close-clash :
-      tooClose (v .band .guard) s (widthOf (demandAt (v .demands) i)) t (widthOf (demandAt (v .demands) j))
-      && shareLink (demandAt (v .demands) i .route) (demandAt (v .demands) j .route) ≡ true →
-      apart (problemOf v) i s j t ≡ false
-  unfolding tooClose problemOf endOf
+  pub close-clash : tooClose (c .guard) s (getD (c .widths) i 0) t (getD (c .widths) j 0) && share ≡ true → apart (problemIn c) i s j t ≡ false
+  unfolding tooClose problemIn endOf
   close-clash h =
-      let G = v .band .guard in
-      let end = s + widthOf (demandAt (v .demands) i) + G in
-      let other = t + widthOf (demandAt (v .demands) j) + G in
-      let share = shareLink (demandAt (v .demands) i .route) (demandAt (v .demands) j .route) in
       let near = and-first (ltb t end && ltb s other) share h in
-      clash-from (problemOf v) i s j t
+      clash-from (problemIn c) i s j t
       (and-second (ltb t end && ltb s other) share h)
       (ltb-true t end (and-first (ltb t end) (ltb s other) near))
       (ltb-true s other (and-second (ltb t end) (ltb s other) near))
 
   -- two demands of which this is not so are apart
-  pub not-close-apart :
-      tooClose (v .band .guard) s (widthOf (demandAt (v .demands) i)) t (widthOf (demandAt (v .demands) j))
-      && shareLink (demandAt (v .demands) i .route) (demandAt (v .demands) j .route) ≡ false →
-      apart (problemOf v) i s j t ≡ true
-  unfolding tooClose problemOf endOf
+  pub not-close-apart : tooClose (c .guard) s (getD (c .widths) i 0) t (getD (c .widths) j 0) && share ≡ false → apart (problemIn c) i s j t ≡ true
+  unfolding tooClose problemIn endOf
   not-close-apart h =
-      let G = v .band .guard in
-      let end = s + widthOf (demandAt (v .demands) i) + G in
-      let other = t + widthOf (demandAt (v .demands) j) + G in
-      let share = shareLink (demandAt (v .demands) i .route) (demandAt (v .demands) j .route) in
-      not-false-true (apart (problemOf v) i s j t)
+      not-false-true (apart (problemIn c) i s j t)
       (λ clash.
-      let facts = clash-facts (problemOf v) i s j t clash in
+      let facts = clash-facts (problemIn c) i s j t clash in
       not-both {C = ⊥} ((ltb t end && ltb s other) && share)
       (and-both (ltb t end && ltb s other) share (and-both (ltb t end) (ltb s other) (lt-ltb t end (facts .1)) (lt-ltb s other (facts .2))) (facts .0)) h)

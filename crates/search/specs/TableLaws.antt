@@ -1,78 +1,82 @@
--- The table of a search: its rows, filled one by one.
+-- The table of a search is the problem that its words and widths pose.
 use Prim.Native.Nat.{ℕ, _≤_, _<_}
 use mathlib.Core.Bool.{Bool, false}
 use mathlib.Core.List.{List, [], map}
-use mathlib.Core.Logic.{_⊎_, ⊎-elim}
-use mathlib.Core.Path.{_≡_, sym, ap, _∙_}
+use mathlib.Core.Logic.{⊎-elim}
+use mathlib.Core.Path.{_≡_, sym, ap, _∙_, fun-ext}
 use native.Mathlib.Omega.{arith}
-use lib.Dec.{ltb}
-use lib.ListN.{length, getD, replicate, length-replicate, length-map, getD-replicate}
-use lib.Seq.{ext-getD}
-use borrow.Author.Tests.{ltb-true, ltb-false}
-use Rattle.request.specs.declared.Request.{Request}
-use Rattle.request.specs.View.{View, view}
-use Rattle.theory.specs.TestLaws.{by-test}
+use lib.ListN.{getD, length-map, List·getD-eq-default}
 use Rattle.theory.specs.Orders.{listing}
 use Rattle.theory.specs.ListingLaws.{listing-length}
-use Rattle.request.specs.Sharing.{problemOf}
-use Rattle.meeting.specs.inner.Filling.{FilledTo}
-use Rattle.meeting.specs.FillingLaws.{filled-entry, unfilled-entry}
-use Rattle.meeting.specs.Row.{meetingRow}
-use Rattle.search.specs.inner.Table.{tableRow, meetingTable, FirstTwenty}
-use Rattle.meeting.specs.MeetingLaws.{row-entry, listing-at, joined-swap, joined-none}
+use Rattle.theory.specs.TriedLaws.{below-or-not}
+use Rattle.meeting.specs.declared.Compact.{Compact}
+use Rattle.meeting.specs.Compact.{shareBit}
+use Rattle.meeting.specs.CompactLaws.{bit-swap}
+use Rattle.meeting.specs.MeetingLaws.{listing-at}
+use Rattle.meeting.specs.inner.Small.{problemIn, Small}
+use Rattle.search.specs.inner.Arrays.{problemOf}
+use Rattle.search.specs.inner.Kept.{Sized}
+use Rattle.search.specs.inner.Table.{tableRow, meetingTable}
 
--- twenty entries filled from a row are its first twenty
-pub twenty-whole : (row twenty : List Bool) → FilledTo Bool (λ (k : ℕ). getD row k false) false 20 20 twenty → FirstTwenty row twenty
-twenty-whole row twenty so-far =
-    record {
-      full = so-far .full;
-      entry = λ k h. filled-entry Bool (λ (j : ℕ). getD row j false) false 20 20 twenty so-far k h h;
-    }
+module _ (words : List ℕ) where
+  -- the row of the word at a place
+  abbrev row-of : ℕ → List Bool
+  row-of i = tableRow words (getD words i 0)
 
--- twenty entries of the row of the demands that meet i
-pub twenty-meeting : (v : View) (i : ℕ) (row twenty : List Bool) → row ≡ meetingRow (v .demands) i → FirstTwenty row twenty → twenty ≡ tableRow v i
-unfolding tableRow
-twenty-meeting v i row twenty known first =
-    let f : ℕ → Bool = λ j. problemOf v .joined i j in
-    ext-getD false twenty (map f (listing 20))
-    (first .full ∙ sym (length-map (listing 20) f ∙ listing-length 20))
-    (λ k h.
-    let low : k < 20 = omega (arith, first .full) in
-    first .entry k low ∙ (ap (λ (r : List Bool). getD r k false) known ∙ row-entry v i k (omega arith)) ∙ joined-swap v k i ∙ sym (listing-at f 20 k false low))
+  -- an entry of the table says whether two words have a bit in common
+  table-entry : (i j : ℕ) → i < 20 → j < 20 → getD (getD (meetingTable words) i []) j false ≡ shareBit (getD words i 0) (getD words j 0)
+  unfolding meetingTable tableRow
+  table-entry i j hi hj =
+      ap (λ (row : List Bool). getD row j false) (listing-at row-of 20 i [] hi)
+      ∙ listing-at (λ (k : ℕ). shareBit (getD words i 0) (getD words k 0)) 20 j false hj
 
--- the row of what is no demand is empty
-none-meeting : (q : Request) (i : ℕ) → length (view q .demands) ≤ i → replicate 20 false ≡ tableRow (view q) i
-unfolding tableRow
-none-meeting q i h =
-    let f : ℕ → Bool = λ j. problemOf (view q) .joined i j in
-    ext-getD false (replicate 20 false) (map f (listing 20))
-    (length-replicate 20 false ∙ sym (length-map (listing 20) f ∙ listing-length 20))
-    (λ k l.
-    let low : k < 20 = omega (arith, length-replicate 20 false) in
-    getD-replicate 20 k false false low ∙ sym (listing-at f 20 k false low ∙ joined-none q i k h))
+  -- behind its last row and its last entry the table says no
+  far-row : (i j : ℕ) → 20 ≤ i → getD (getD (meetingTable words) i []) j false ≡ false
+  unfolding meetingTable
+  far-row i j h =
+      ap (λ (row : List Bool). getD row j false)
+      (List·getD-eq-default (map row-of (listing 20)) [] {n = i} (omega (arith, length-map (listing 20) row-of, listing-length 20)))
 
--- the table is whole once twenty rows, or the rows of all demands, are filled
-pub table-whole : (q : Request) (i : ℕ) (table : List (List Bool)) → (20 ≤ i) ⊎ (length (view q .demands) ≤ i) →
-    FilledTo (List Bool) (tableRow (view q)) (replicate 20 false) 20 i table → table ≡ meetingTable (view q)
-unfolding meetingTable
-table-whole q i table enough so-far =
-    let none : List Bool = replicate 20 false in
-    ext-getD none table (map (tableRow (view q)) (listing 20))
-    (so-far .full ∙ sym (length-map (listing 20) (tableRow (view q)) ∙ listing-length 20))
-    (λ k h.
-    let low : k < 20 = omega (arith, so-far .full) in
-    by-test (ltb k i)
-    (λ t. filled-entry (List Bool) (tableRow (view q)) none 20 i table so-far k low (ltb-true k i t))
-    (λ t.
-    let behind : i ≤ k = ltb-false k i t in
-    unfilled-entry (List Bool) (tableRow (view q)) none 20 i table so-far k low behind
-    ∙ none-meeting q k (⊎-elim (λ (l : 20 ≤ i). absurd (omega arith)) (λ (l : length (view q .demands) ≤ i). omega arith) enough))
-    ∙ sym (listing-at (tableRow (view q)) 20 k none low))
+  far-entry : (i j : ℕ) → i < 20 → 20 ≤ j → getD (getD (meetingTable words) i []) j false ≡ false
+  unfolding meetingTable tableRow
+  far-entry i j h k =
+      let f : ℕ → Bool = λ n. shareBit (getD words i 0) (getD words n 0) in
+      ap (λ (row : List Bool). getD row j false) (listing-at row-of 20 i [] h)
+      ∙ List·getD-eq-default (map f (listing 20)) false {n = j} (omega (arith, length-map (listing 20) f, listing-length 20))
 
--- an entry of the table says whether two demands share a link
-pub table-entry : (v : View) (i j : ℕ) (none : List Bool) → i < 20 → j < 20 →
-    getD (getD (meetingTable v) i none) j false ≡ problemOf v .joined i j
-unfolding meetingTable tableRow
-table-entry v i j none hi hj =
-    ap (λ (row : List Bool). getD row j false) (listing-at (tableRow v) 20 i none hi)
-    ∙ listing-at (λ (k : ℕ). problemOf v .joined i k) 20 j false hj
+-- a word of no bit has none in common with another
+none-shared : (a b : ℕ) → a ≡ 0 → shareBit a b ≡ false
+unfolding shareBit
+none-shared a b none = rw none
+
+module _ (c : Compact) (small : Small c) (few : c .count ≤ 20) where
+  -- the table says of any two numbers what the words say: behind the twenty there is none
+  joined-everywhere : (i j : ℕ) → getD (getD (meetingTable (c .words)) i []) j false ≡ shareBit (getD (c .words) i 0) (getD (c .words) j 0)
+  joined-everywhere i j =
+      let none : (a b : ℕ) → 20 ≤ a → shareBit (getD (c .words) a 0) (getD (c .words) b 0) ≡ false =
+      λ a b far. none-shared (getD (c .words) a 0) (getD (c .words) b 0) (small .no-word a (omega arith)) in
+      ⊎-elim
+      (λ (hi : i < 20). ⊎-elim
+      (λ (hj : j < 20). table-entry (c .words) i j hi hj)
+      (λ (hj : 20 ≤ j). far-entry (c .words) i j hi hj ∙ sym (bit-swap (getD (c .words) i 0) (getD (c .words) j 0) ∙ none j i hj))
+      (below-or-not j 20))
+      (λ (hi : 20 ≤ i). far-row (c .words) i j hi ∙ sym (none i j hi))
+      (below-or-not i 20)
+
+  -- so the problem of the table and the widths is the one posed
+  pub same-problem : problemOf (meetingTable (c .words)) (c .widths) (c .guard) ≡ problemIn c
+  unfolding problemOf problemIn
+  same-problem =
+      ap (λ (j : ℕ → ℕ → Bool). record { width = λ (i : ℕ). getD (c .widths) i 0; joined = j; gap = λ (i j : ℕ). c .guard })
+      (fun-ext (λ (i : ℕ). fun-ext (λ (j : ℕ). joined-everywhere i j)))
+
+  -- and has the sizes that the walk takes
+  pub walk-sizes : Sized (meetingTable (c .words)) (c .widths) (c .guard) (c .count)
+  walk-sizes =
+      record {
+        few = few;
+        narrow = λ i h. omega (arith, small .width-in-band i, small .most-slots);
+        guarded = small .most-guard;
+        even = λ i j hi hj.
+            joined-everywhere i j ∙ bit-swap (getD (c .words) i 0) (getD (c .words) j 0) ∙ sym (joined-everywhere j i);
+      }

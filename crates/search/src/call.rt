@@ -10,21 +10,23 @@ use crate::walk_orders;
 use lent::check_rooms;
 use lent::write_front;
 use meeting::BoundReply;
+use meeting::Compact;
 use meeting::bound;
+use meeting::compacted;
 use placing::first_fit;
 use refusal::Refusal;
 use request::Checked;
 use request::Request;
-use request::width_of;
 ghost use mathlib.Core.Path.{_≡_};
-ghost use Prim.Native.Nat.{ℕ};
-ghost use lib.ListN.{getD, replicate};
+ghost use Prim.Native.Nat.{_≤_};
+ghost use lib.ListN.{replicate};
 ghost use Rattle.request.specs.declared.Checked.the-variants.{Sound};
-ghost use Rattle.request.specs.View.{view, demandAt, widthOf};
+ghost use Rattle.request.specs.View.{view};
 ghost use Rattle.request.specs.Check.{check};
 ghost use Rattle.meeting.specs.Bound.{boundOf};
+ghost use Rattle.meeting.specs.inner.Small.{Small};
 ghost use Rattle.search.specs.Reply.{outcomeBy, buffersOf, roomsOf, searchReply, buffersAfter};
-ghost use Rattle.search.specs.inner.Found.{FoundFor, Searchable};
+ghost use Rattle.search.specs.inner.Found.{FoundFor, searchedIn};
 
 // The search for the lowest end of any plan: up to 20 demands, at most `limit` steps. With a plan `starts` gets its start of each
 // demand by listing position, `order` the order that gave it, and `blockers` by listing position who kept each demand from starting
@@ -73,7 +75,8 @@ fn search_sound(
     if let Checked::Refused(why) = roomy {
         return SearchReply::Refused(why);
     }
-    let found = find(request, need, limit);
+    let compact = compacted(request);
+    let found = find(compact, need, limit);
     let answer = found.answer;
     let plan = found.plan;
     if !plan {
@@ -89,13 +92,13 @@ fn search_sound(
 }
 
 // What the search of a request that passed its tests finds, with its bound.
-fn find(request: Request, need: u32, limit: u32) -> Found
-    requires { ⌜ Searchable (view request) ⌝ }
-    requires { ⌜ need ≡ boundOf (view request) ⌝ }
-    ensures { λ r. ⌜ FoundFor (view request) limit r ⌝ }
+fn find(compact: Compact, need: u32, limit: u32) -> Found
+    requires { ⌜ Small compact ⌝ }
+    requires { ⌜ compact .count ≤ 20 ⌝ }
+    ensures { λ r. ⌜ FoundFor (compact .count) (searchedIn compact need limit) r ⌝ }
 {
-    let count = request.demand_count;
-    let slots = request.band.slots;
+    let count = compact.count;
+    let slots = compact.slots;
     if (slots as u32) < need {
         return found_at_once(
             Outcome::NothingFits,
@@ -108,10 +111,12 @@ fn find(request: Request, need: u32, limit: u32) -> Found
     if count == 0 {
         return found_at_once(Outcome::Finished(0), need, 1, 0, true);
     }
-    let guard = request.band.guard as u16;
+    let guard = compact.guard as u16;
+    let words = compact.words;
+    let widths = compact.widths;
     let walked = walk_orders(
-        meeting_table(request),
-        first_widths(request),
+        meeting_table(words),
+        widths,
         guard,
         count,
         slots,
@@ -119,22 +124,6 @@ fn find(request: Request, need: u32, limit: u32) -> Found
         limit,
     );
     found_by_walk(walked, need)
-}
-
-// The widths of the demands, 0 behind the last.
-fn first_widths(request: Request) -> [u16; 20]
-    requires { ⌜ Searchable (view request) ⌝ }
-    ensures { λ r. ⌜ ((i : ℕ) → getD r i 0 ≡ widthOf (demandAt (view request .demands) i)) ⌝ }
-{
-    let count = request.demand_count;
-    let mut widths = [0u16; 20];
-    let mut i: usize = 0;
-    while i < count {
-        let demand = request.demands[i];
-        widths[i] = width_of(demand);
-        i += 1;
-    }
-    widths
 }
 
 // What is known without a step: the bound is above the band, so that every order is ruled out; or no demand is asked for, and the empty

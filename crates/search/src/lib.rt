@@ -135,7 +135,7 @@ fn scan(
 // it is unless the two clash, and then nothing is free for it below the other's end and guard.
 fn mended(
     table: &[[bool; 20]; 20],
-    widths: &[u16; 20],
+    widths: &[u16; 200],
     guard: u16,
     count: usize,
     order: &[u16; 20],
@@ -170,7 +170,7 @@ fn mended(
 // After the demand at place `placed` of the order was put down, the lowest starts of those after it are mended.
 fn mend(
     table: &[[bool; 20]; 20],
-    widths: &[u16; 20],
+    widths: &[u16; 200],
     guard: u16,
     count: usize,
     order: &[u16; 20],
@@ -255,7 +255,7 @@ fn complete(
 // lent is not changed: the arrays of the level below are its own. `end` is the largest end, this demand's included.
 fn place(
     table: [[bool; 20]; 20],
-    widths: &[u16; 20],
+    widths: &[u16; 200],
     guard: u16,
     count: usize,
     bound: u16,
@@ -320,7 +320,7 @@ fn place(
 // With `placed` demands put down, those from place `at` of the order on are tried in turn. `top` is the largest end so far.
 fn sibling(
     table: &[[bool; 20]; 20],
-    widths: &[u16; 20],
+    widths: &[u16; 200],
     guard: u16,
     count: usize,
     bound: u16,
@@ -447,7 +447,7 @@ const LISTING: [u16; 20] = [
 // The walk over all orders of `count` demands, from its start.
 fn walk_orders(
     table: [[bool; 20]; 20],
-    widths: [u16; 20],
+    widths: [u16; 200],
     guard: u16,
     count: usize,
     slots: u16,

@@ -7,19 +7,15 @@ use mathlib.Core.Path.{_≡_}
 use lib.ListN.{length, getD, set, take}
 use Rattle.theory.specs.Problem.{Problem, Row, fill, top}
 use Rattle.theory.specs.Orders.{countUp, spread, ordersOf}
-use Rattle.theory.specs.Walk.{met}
+use Rattle.theory.specs.Walk.{Best, met}
 use Rattle.theory.specs.Groups.{groupStart}
 use Rattle.theory.specs.inner.Tried.{Lead, try}
 use Rattle.theory.specs.inner.Grouped.{reach, below, unmarked}
 use Rattle.board.specs.inner.Standing.{OnBoard, Standing}
-use Rattle.request.specs.declared.Checked.the-variants.{Sound}
-use Rattle.request.specs.View.{View}
-use Rattle.request.specs.Check.{check}
-use Rattle.request.specs.Sharing as sharing
 use Rattle.search.specs.inner.Arrays.{problemOf}
 use Rattle.search.specs.inner.Told.{isMet}
 use Rattle.groups.specs.declared.BestOrder.{BestOrder}
-use Rattle.groups.specs.Reply.{groupable, grouped, orderTold}
+use Rattle.groups.specs.Reply.{orderTold}
 use Rattle.groups.specs.inner.Table.{GroupStarts}
 
 -- K demands whose table reads alike both ways
@@ -88,13 +84,8 @@ module _ (P : Problem) (K M : ℕ) (used : List Bool) (order : List ℕ) (placed
       try P (reach P K M) []
       (below (take placed order) (spread (ordersOf (M - (placed + 1))) (unmarked used 0 g) (unmarked used g (M - g)))) lead
 
--- a request that may be cut into M groups
-pub record Groupable (v : View) (M : ℕ) : Type 0 where
-  pub sound : check v ≡ Sound
-  pub can : groupable (v .demandCount) M ≡ true
-
--- the best of all group orders: whether there is one, its end, and the order
-pub record OrderFound (v : View) (M : ℕ) (best : BestOrder) : Type 0 where
-  pub found-is : best .found ≡ isMet (grouped v M)
-  pub end-is : (rows : List Row) (order : List ℕ) → grouped v M ≡ met rows order → best .end ≡ top (sharing.problemOf v) rows
-  pub order-is : (rows : List Row) (order : List ℕ) → grouped v M ≡ met rows order → best .order ≡ orderTold order
+-- the best of some group orders: whether there is one, its end, and the order
+pub record OrderFound (P : Problem) (found : Best) (best : BestOrder) : Type 0 where
+  pub found-is : best .found ≡ isMet found
+  pub end-is : (rows : List Row) (order : List ℕ) → found ≡ met rows order → best .end ≡ top P rows
+  pub order-is : (rows : List Row) (order : List ℕ) → found ≡ met rows order → best .order ≡ orderTold order

@@ -1,9 +1,9 @@
 -- A route as one word: a bit for each link number below 64 that stands in it.
-use Prim.Native.Nat.{ℕ, zero, suc, _*_, _/_, _%_, _^_, _<_}
-use mathlib.Core.Bool.{Bool, not, cond}
+use Prim.Native.Nat.{ℕ, zero, suc, _/_, _%_, _^_, _<_}
+use mathlib.Core.Bool.{Bool, not}
 use mathlib.Core.List.{List}
 use mathlib.Core.Path.{_≡_}
-use lib.Dec.{eqb, ltb, leb}
+use lib.Dec.{eqb, leb}
 use Rattle.request.specs.Check.{has}
 use Rattle.meeting.specs.inner.Meeting.{someLink}
 
@@ -11,10 +11,6 @@ use Rattle.meeting.specs.inner.Meeting.{someLink}
 unfoldable pub bitOf : ℕ → ℕ → Bool
 bitOf word zero = eqb (word % 2) 1
 bitOf word (suc x) = bitOf (word / 2) x
-
--- the word of one link alone; a link of 64 or more has no bit
-unfoldable pub linkBit : ℕ → ℕ
-linkBit link = cond (ltb link 64) (1 * 2 ^ link) 0
 
 -- the word is that of a list: of the numbers below 64 it holds all that stand in the list, and nothing above them
 pub record WordOf (list : List ℕ) (word : ℕ) : Type 0 where

@@ -1,24 +1,17 @@
--- The table of who meets whom among the first twenty demands.
-use Prim.Native.Nat.{ℕ, _<_}
-use mathlib.Core.Bool.{Bool, false}
+-- The table of who meets whom among the first twenty demands, by their words.
+use Prim.Native.Nat.{ℕ}
+use mathlib.Core.Bool.{Bool}
 use mathlib.Core.List.{List, map}
-use mathlib.Core.Path.{_≡_}
-use lib.ListN.{length, getD}
+use lib.ListN.{getD}
 use Rattle.theory.specs.Orders.{listing}
-use Rattle.request.specs.View.{View}
-use Rattle.request.specs.Sharing.{problemOf}
+use Rattle.meeting.specs.Compact.{shareBit}
 
--- which of the first twenty demands share a link with demand i
-unfoldable pub tableRow : View → ℕ → List Bool
-unfolding problemOf listing
-tableRow v i = map (λ (j : ℕ). problemOf v .joined i j) (listing 20)
+-- which of the first twenty words have a bit in common with a word
+unfoldable pub tableRow : List ℕ → ℕ → List Bool
+unfolding shareBit listing
+tableRow words word = map (λ (j : ℕ). shareBit word (getD words j 0)) (listing 20)
 
--- which of the first twenty demands share a link: a row of twenty for each of the twenty
-unfoldable pub meetingTable : View → List (List Bool)
+-- which of the first twenty words have a bit in common: a row of twenty for each of the twenty
+unfoldable pub meetingTable : List ℕ → List (List Bool)
 unfolding tableRow
-meetingTable v = map (tableRow v) (listing 20)
-
--- the first twenty entries of a row
-pub record FirstTwenty (row twenty : List Bool) : Type 0 where
-  pub full : length twenty ≡ 20
-  pub entry : (k : ℕ) → k < 20 → getD twenty k false ≡ getD row k false
+meetingTable words = map (λ (i : ℕ). tableRow words (getD words i 0)) (listing 20)

@@ -5,35 +5,31 @@ use mathlib.Core.List.{List}
 use mathlib.Core.Path.{_≡_, subst}
 use native.Mathlib.Omega.{arith}
 use borrow.Author.Needs.{needs}
-use lib.ListN.{replicate}
-use Rattle.request.specs.View.{view}
+use lib.ListN.{length, replicate}
+use Rattle.meeting.specs.Compact.{wordRow}
 use Rattle.meeting.specs.inner.Filling.{FilledTo}
 use Rattle.meeting.specs.FillingLaws.{filled-none, filled-more}
-use Rattle.meeting.specs.Row.{meetingRow}
-use Rattle.groups.specs.TableLaws.{few-listed, table-whole}
+use Rattle.groups.specs.TableLaws.{table-whole}
 use Rattle.groups.proofs.table.meeting_table.Statement.{statement}
 use Rattle.groups.proofs.table.meeting_table.Tie as tie
 
 abbrev Inv-loop : tie.InvT-loop
-Inv-loop request table₀ count i₀ table i =
-    (i ≤ count) × FilledTo (List Bool) (meetingRow (view request .demands)) (replicate 200 false) 200 i table
+Inv-loop words count table₀ i₀ table i = (i ≤ count) × FilledTo (List Bool) (wordRow words) (replicate 200 false) 200 i table
 
 abbrev μ-loop : tie.MeasureT-loop
-μ-loop request table₀ count i₀ table i = count - i
+μ-loop words count table₀ i₀ table i = count - i
 
 loop-holds : tie.Need-loop-holds Inv-loop μ-loop
-loop-holds c = (omega arith, filled-none (List Bool) (meetingRow (view (c .args .request) .demands)) (replicate 200 false) 200)
+loop-holds c = (omega arith, filled-none (List Bool) (wordRow (c .args .words)) (replicate 200 false) 200)
 
-meeting-row-requires : tie.Need-meeting-row-requires Inv-loop μ-loop
-meeting-row-requires c κs = search needs
+word-row-requires : tie.Need-word-row-requires Inv-loop μ-loop
+word-row-requires c κs = search needs
 
 mul-table : tie.Need-mul-table Inv-loop μ-loop
-mul-table c =
-    record { fits = omega (arith, few-listed (c .before .before .before .before .args .request) (c .before .before .before .before .pre)) }
+mul-table c = record { fits = omega (arith, c .before .before .before .pre .0) }
 
 array-set-from-table : tie.Need-array-set-from-table Inv-loop μ-loop
-array-set-from-table c =
-    omega (arith, few-listed (c .before .before .before .before .args .request) (c .before .before .before .before .pre))
+array-set-from-table c = omega (arith, c .before .before .before .pre .0)
 
 add-i : tie.Need-add-i Inv-loop μ-loop
 add-i c = search needs
@@ -42,26 +38,25 @@ loop-less : tie.Need-loop-less Inv-loop μ-loop
 loop-less c = omega arith
 
 loop-again : tie.Need-loop-again Inv-loop μ-loop
-unfolding view
 loop-again c =
-    let start = c .before .before .before .before in
-    let at = c .before .before .before .loop in (
+    let start = c .before .before .before in
+    let turn = c .before .before .loop in (
       omega arith,
-      filled-more (List Bool) (meetingRow (view (start .args .request) .demands)) (replicate 200 false) 200 (at .i) (at .table)
-          (c .meeting-row .result)
-          (omega (arith, few-listed (start .args .request) (start .pre)))
-          (c .meeting-row .ensures)
-          (at .inv .1),
+      filled-more (List Bool) (wordRow (start .args .words)) (replicate 200 false) 200 (turn .i) (turn .table) (c .word-row .result)
+          (omega (arith, start .pre .0))
+          (c .word-row .ensures)
+          (turn .inv .1),
     )
 
 returns : tie.Need-returns Inv-loop μ-loop
 returns c =
     let start = c .before .before in
-    let q = start .args .request in
-    let at = c .before .loop in
-    let all : at .i ≡ q .«demand_count» = omega arith in
-    table-whole q (few-listed q (start .pre)) (at .table)
-    (subst (λ (i : ℕ). FilledTo (List Bool) (meetingRow (view q .demands)) (replicate 200 false) 200 i (at .table)) all (at .inv .1))
+    let words = start .args .words in
+    let full : _≡_ {A = ℕ} (length (c .before .before .args .words)) 200 = search needs in
+    let turn = c .before .loop in
+    let all : turn .i ≡ start .args .count = omega arith in
+    table-whole words (omega (arith, full)) (start .args .count) (turn .table) (start .pre .1)
+    (subst (λ (i : ℕ). FilledTo (List Bool) (wordRow words) (replicate 200 false) 200 i (turn .table)) all (turn .inv .1))
 
 pub meeting-table-spec : {M : Type 1} → statement M
 meeting-table-spec =
@@ -70,7 +65,7 @@ meeting-table-spec =
     Inv-loop
     μ-loop
     loop-holds
-    meeting-row-requires
+    word-row-requires
     mul-table
     array-set-from-table
     add-i

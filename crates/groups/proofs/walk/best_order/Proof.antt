@@ -1,72 +1,50 @@
 -- `groups::walk::best_order` meets its contract. Assumes nothing.
-use Prim.Native.Nat.{ℕ, _≤_}
-use mathlib.Core.Path.{_≡_, refl, sym, ap, _∙_}
+use mathlib.Core.Path.{refl}
 use native.Mathlib.Omega.{arith}
 use borrow.Author.Needs.{needs}
-use lib.ListN.{length}
-use Rattle.request.specs.View.{view}
-use Rattle.request.specs.SoundLaws.{check-sound, whole-counted}
-use Rattle.request.specs.LimitsLaws.{checked-limits}
-use Rattle.request.specs.Sound.{SoundRequest}
-use Rattle.request.proofs.Arrays.{whole}
-use Rattle.groups.specs.ReplyLaws.{groupable-says}
 use Rattle.groups.specs.StartLaws.{on-table, start-ready, order-found}
 use Rattle.groups.proofs.walk.best_order.Statement.{statement}
 use Rattle.groups.proofs.walk.best_order.Tie as tie
-
--- the request is sound
-sound : (c : tie.Start) → SoundRequest (view (c .args .request))
-sound c = let arrays = whole (c .args .request) _ (c .good .0) in check-sound (view (c .args .request)) (whole-counted (c .args .request) arrays) (c .pre .sound)
-
--- so many groups can be
-can : (c : tie.Start) → (1 ≤ c .args .m) × (c .args .m ≤ 8) × (c .args .m ≤ view (c .args .request) .demandCount)
-can c = groupable-says (view (c .args .request) .demandCount) (c .args .m) (c .pre .can)
 
 cast-guard : tie.Need-cast-guard
 cast-guard c = search needs
 
 group-starts-requires : tie.Need-group-starts-requires
-unfolding view
-group-starts-requires c κs = let h = can (c .before) in (h .0, h .1, sound (c .before) .at-most-200-demands)
+group-starts-requires c κs =
+    let s = c .before .before .before in
+    (s .pre .1 .0, s .pre .1 .1, s .pre .0 .most-demands)
 
-add-t14 : tie.Need-add-t14
-unfolding view
-add-t14 c =
-    let s = c .before .before in
-    let limits = checked-limits (s .args .request) (whole (s .args .request) _ (s .good .0)) (s .pre .sound) in
-    omega (arith, limits .most-slots)
+add-t16 : tie.Need-add-t16
+add-t16 c = omega (arith, c .before .before .before .before .pre .0 .most-slots)
 
 meeting-table-requires : tie.Need-meeting-table-requires
-meeting-table-requires c κs = sound (c .before .before) .at-most-200-demands
-
-all-widths-requires : tie.Need-all-widths-requires
-all-widths-requires c κs = sound (c .before .before .before .before) .at-most-200-demands
+meeting-table-requires c κs =
+    let s = c .before .before .before .before in
+    (s .pre .0 .most-demands, s .pre .0 .no-word)
 
 try-groups-requires : tie.Need-try-groups-requires
-unfolding view
 try-groups-requires c κs =
-    let s = c .before .before .before .before .before .before .before .before .before .before .before .before .before in
-    let v = view (s .args .request) in
-    let h = can s in (
-      start-ready (c .before .before .before .before .before .before .before .before .before .before .meeting-table .result) (c .before .before .before .before .before .before .before .before .all-widths .result) (v .band .guard) (v .demandCount) (c .before .before .before .before .before .before .before .before .before .before .before .group-starts .result) (s .args .m)
-          (on-table v (c .before .before .before .before .before .before .before .before .before .before .meeting-table .result) (c .before .before .before .before .before .before .before .before .all-widths .result) (sound s) (c .before .before .before .before .before .before .before .before .before .before .meeting-table .ensures) (c .before .before .before .before .before .before .before .before .all-widths .ensures))
-          (c .before .before .before .before .before .before .before .before .before .before .before .group-starts .ensures) (h .0) (h .1) (h .2),
+    let s = c .before .before .before .before .before .before .before .before .before .before .before .before .before .before in
+    let compact = s .args .compact in
+    let table = c .before .before .before .before .before .before .before .before .before .meeting-table in (
+      start-ready (table .result) (compact .widths) (compact .guard) (compact .count) (c .before .before .before .before .before .before .before .before .before .before .group-starts .result) (s .args .m)
+          (on-table compact (table .result) (s .pre .0) (table .ensures))
+          (c .before .before .before .before .before .before .before .before .before .before .group-starts .ensures) (s .pre .1 .0) (s .pre .1 .1) (s .pre .1 .2),
       (omega arith, refl, omega arith),
     )
 
-array-read-t14 : tie.Need-array-read-t14
-array-read-t14 c = search needs
+array-read-t16 : tie.Need-array-read-t16
+array-read-t16 c = search needs
 
 array-read-t34 : tie.Need-array-read-t34
 array-read-t34 c = search needs
 
 returns : tie.Need-returns
-unfolding view
 returns c =
-    let s = c .before .before .before .before .before .before .before .before .before .before .before .before .before .before in
-    let v = view (s .args .request) in
-    order-found v (s .args .m) (c .before .before .before .before .before .before .before .before .before .before .before .meeting-table .result) (c .before .before .before .before .before .before .before .before .before .all-widths .result) (c .try-groups .last .1 .1 .1 .1 .1 .1 .1 .1 .1 .1 .1 .1 .1 .0) (c .try-groups .last .1 .1 .1 .1 .1 .1 .1 .1 .1 .1 .1 .1 .1 .1 .0) _ (can s .0)
-    (c .before .before .before .before .before .before .before .before .before .before .before .meeting-table .ensures) (c .before .before .before .before .before .before .before .before .before .all-widths .ensures) (c .try-groups .ensures .1) refl
+    let s = c .before .before .before .before .before .before .before .before .before .before .before .before .before .before .before in
+    let table = c .before .before .before .before .before .before .before .before .before .before .meeting-table in
+    order-found (s .args .compact) (s .args .m) (table .result) (c .try-groups .last .1 .1 .1 .1 .1 .1 .1 .1 .1 .1 .1 .1 .1 .0) (c .try-groups .last .1 .1 .1 .1 .1 .1 .1 .1 .1 .1 .1 .1 .1 .1 .0) _ (s .pre .1 .0)
+    (table .ensures) (c .try-groups .ensures .1) refl
 
 pub best-order-spec : {M : Type 1} → statement M
 best-order-spec =
@@ -74,10 +52,9 @@ best-order-spec =
     (tie.spec
     cast-guard
     group-starts-requires
-    add-t14
+    add-t16
     meeting-table-requires
-    all-widths-requires
     try-groups-requires
-    array-read-t14
+    array-read-t16
     array-read-t34
     returns)

@@ -8,8 +8,13 @@ use Rattle.meeting.proofs.route.share_word.Tie as tie
 route-word-requires : tie.Need-route-word-requires
 route-word-requires c κs = search needs
 
+share-bit-requires : tie.Need-share-bit-requires
+share-bit-requires c κs = search needs
+
 returns : tie.Need-returns
-returns c = share-word _ _ (c .route-word .result) (c .before .before .args .word) (c .route-word .ensures) (c .before .before .pre .0) (sym (c .before .before .pre .1) ∙ c .before .if1 .taken)
+returns c =
+    c .share-bit .ensures
+    ∙ share-word _ _ (c .before .route-word .result) (c .before .before .before .args .word) (c .before .route-word .ensures) (c .before .before .before .pre .0) (sym (c .before .before .before .pre .1) ∙ c .before .before .if1 .taken)
 
 share-by-link-requires : tie.Need-share-by-link-requires
 share-by-link-requires c κs = search needs
@@ -18,4 +23,4 @@ returns-2 : tie.Need-returns-2
 returns-2 c = c .share-by-link .ensures
 
 pub share-word-spec : {M : Type 1} → statement M
-share-word-spec = tie.close (tie.spec route-word-requires returns share-by-link-requires returns-2)
+share-word-spec = tie.close (tie.spec route-word-requires share-bit-requires returns share-by-link-requires returns-2)

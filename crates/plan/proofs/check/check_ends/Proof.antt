@@ -1,63 +1,55 @@
 -- `plan::check::check_ends` meets its contract. Assumes nothing.
-use Prim.Native.Nat.{ℕ, _+_, _≤_, _<_, _-_, min}
-use mathlib.Core.Path.{_≡_, refl, sym, _∙_, ap}
+use Prim.Native.Nat.{_≤_, _-_}
+use mathlib.Core.Path.{_≡_, sym, ap, _∙_}
 use native.Mathlib.Omega.{arith}
-use lib.ListN.{length, drop}
 use borrow.Author.Needs.{needs}
 use borrow.Author.Tests.{leb-true, leb-false}
 use Rattle.grid.specs.ReplyLaws.{passed-by, refused-by}
-use Rattle.request.specs.View.{view, viewDemand, demandAt, widthOf}
-use Rattle.request.specs.ViewLaws.{demands-shown, demand-shown, mapped-length}
+use Rattle.meeting.specs.inner.Small.{problemIn}
 use Rattle.meeting.specs.Plan.{startAt}
-use Rattle.plan.specs.CheckStarts.{checkEnds}
+use Rattle.plan.specs.inner.Rows.{endsFrom}
 use Rattle.plan.specs.TurnLaws.{end-passes, end-refused, ends-done}
 use Rattle.plan.proofs.check.check_ends.Statement.{statement}
 use Rattle.plan.proofs.check.check_ends.Tie as tie
 
 abbrev Inv-loop : tie.InvT-loop
-Inv-loop starts request count slots k₀ k =
-    (k ≤ count) × (checkEnds slots starts 0 (view request .demands) ≡ checkEnds slots starts k (drop k (view request .demands)))
+Inv-loop starts compact count slots k₀ k =
+    (k ≤ count) × (endsFrom (problemIn compact) slots starts 0 count ≡ endsFrom (problemIn compact) slots starts k (count - k))
 
 abbrev μ-loop : tie.MeasureT-loop
-μ-loop starts request count slots k₀ k = count - k
+μ-loop starts compact count slots k₀ k = count - k
 
 loop-holds : tie.Need-loop-holds Inv-loop μ-loop
-loop-holds c = (search needs, refl)
+loop-holds c =
+    let a = c .before .args in
+    (search needs, ap (endsFrom (problemIn (a .t1)) (a .t1 .slots) (a .starts .now) 0) (omega arith))
 
-mul-demand : tie.Need-mul-demand Inv-loop μ-loop
-mul-demand c = search needs
+mul-width : tie.Need-mul-width Inv-loop μ-loop
+mul-width c = omega (arith, c .loop-test .taken, c .before .before .before .pre .0 .most-demands)
 
-element-copy-out-demand : tie.Need-element-copy-out-demand Inv-loop μ-loop
-element-copy-out-demand c = search needs
+element-copy-out-width : tie.Need-element-copy-out-width Inv-loop μ-loop
+element-copy-out-width c = omega (arith, c .loop-test .taken, c .before .before .before .pre .0 .most-demands)
 
 mul-start : tie.Need-mul-start Inv-loop μ-loop
-mul-start c = search needs
+mul-start c = omega (arith, c .before .loop-test .taken, c .before .before .before .before .pre .0 .most-demands)
 
 shared-slice-read-start : tie.Need-shared-slice-read-start Inv-loop μ-loop
 shared-slice-read-start c = search needs
 
-width-of-requires : tie.Need-width-of-requires Inv-loop μ-loop
-width-of-requires c κs = search needs
-
 cast-end-within : tie.Need-cast-end-within Inv-loop μ-loop
-cast-end-within c = omega (arith, c .before .shared-slice-known2 .given (c .before .before .before .before .loop .k))
+cast-end-within c = omega (arith, c .shared-slice-known2 .given (c .before .before .before .loop .k))
 
 end-within-requires : tie.Need-end-within-requires Inv-loop μ-loop
 end-within-requires c κs = search needs
 
 returns : tie.Need-returns Inv-loop μ-loop
-unfolding startAt viewDemand
+unfolding startAt problemIn
 returns c =
-    let request = c .before .before .before .before .before .before .before .before .args .t1 in
-    let starts = c .before .before .before .before .before .before .before .before .args .starts .now in
-    let v = view request in
-    let k = c .before .before .before .before .before .before .loop .k in
-    let all : _≡_ {A = ℕ} (length (request .demands)) 200 = search (mapped-length, needs) in
-    let shown : length (v .demands) ≡ min (request .«demand_count») (length (request .demands)) = demands-shown request in
-    let above : request .band .slots < startAt starts k + widthOf (demandAt (v .demands) k) =
-    let past : request .band .slots < startAt starts k + c .before .before .width-of .result = leb-false _ _ (refused-by (c .before .end-within .ensures) (c .if1 .taken)) in
-    omega (arith, past, c .before .before .width-of .ensures, ap widthOf (demand-shown request k (omega arith))) in
-    sym (c .before .before .before .before .before .before .loop .inv .1 ∙ end-refused (request .band .slots) starts (v .demands) k (omega arith) above)
+    let compact = c .before .before .before .before .before .before .before .args .t1 in
+    let starts = c .before .before .before .before .before .before .before .args .starts .now in
+    let at = c .before .before .before .before .before .loop in
+    sym (at .inv .1 ∙ end-refused (problemIn compact) (compact .slots) starts (compact .count) (at .k) (c .before .before .before .before .loop-test .taken)
+    (leb-false _ _ (refused-by (c .before .end-within .ensures) (c .if1 .taken))))
 
 add-k : tie.Need-add-k Inv-loop μ-loop
 add-k c = search needs
@@ -66,28 +58,22 @@ loop-less : tie.Need-loop-less Inv-loop μ-loop
 loop-less c = omega arith
 
 loop-again : tie.Need-loop-again Inv-loop μ-loop
-unfolding startAt viewDemand
+unfolding startAt problemIn
 loop-again c =
-    let request = c .before .before .before .before .before .before .before .before .args .t1 in
-    let starts = c .before .before .before .before .before .before .before .before .args .starts .now in
-    let v = view request in
-    let k = c .before .before .before .before .before .before .loop .k in
-    let all : _≡_ {A = ℕ} (length (request .demands)) 200 = search (mapped-length, needs) in
-    let shown : length (v .demands) ≡ min (request .«demand_count») (length (request .demands)) = demands-shown request in
-    let within : startAt starts k + widthOf (demandAt (v .demands) k) ≤ request .band .slots =
-    let fits : startAt starts k + c .before .before .width-of .result ≤ request .band .slots = leb-true _ _ (passed-by (c .before .end-within .ensures) (c .if1 .left)) in
-    omega (arith, fits, c .before .before .width-of .ensures, ap widthOf (demand-shown request k (omega arith))) in
-    (omega arith, c .before .before .before .before .before .before .loop .inv .1 ∙ end-passes (request .band .slots) starts (v .demands) k (omega arith) within)
+    let compact = c .before .before .before .before .before .before .before .args .t1 in
+    let starts = c .before .before .before .before .before .before .before .args .starts .now in
+    let at = c .before .before .before .before .before .loop in (
+      omega arith,
+      at .inv .1 ∙ end-passes (problemIn compact) (compact .slots) starts (compact .count) (at .k) (c .before .before .before .before .loop-test .taken)
+          (leb-true _ _ (passed-by (c .before .end-within .ensures) (c .if1 .left))),
+    )
 
 returns-2 : tie.Need-returns-2 Inv-loop μ-loop
 returns-2 c =
-    let request = c .before .before .before .args .t1 in
+    let compact = c .before .before .before .args .t1 in
     let starts = c .before .before .before .args .starts .now in
-    let v = view request in
-    let k = c .before .loop .k in
-    let all : _≡_ {A = ℕ} (length (request .demands)) 200 = search (mapped-length, needs) in
-    let shown : length (v .demands) ≡ min (request .«demand_count») (length (request .demands)) = demands-shown request in
-    sym (c .before .loop .inv .1 ∙ ends-done (request .band .slots) starts (v .demands) k (omega arith))
+    let at = c .before .loop in
+    sym (at .inv .1 ∙ ends-done (problemIn compact) (compact .slots) starts (compact .count) (at .k) (omega arith))
 
 pub check-ends-spec : {M : Type 1} → statement M
 check-ends-spec =
@@ -96,11 +82,10 @@ check-ends-spec =
     Inv-loop
     μ-loop
     loop-holds
-    mul-demand
-    element-copy-out-demand
+    mul-width
+    element-copy-out-width
     mul-start
     shared-slice-read-start
-    width-of-requires
     cast-end-within
     end-within-requires
     returns

@@ -1,14 +1,13 @@
 -- `plan::check::clashes_before` meets its contract. Assumes nothing.
-use Prim.Native.Nat.{ℕ, _≤_, _-_, min}
-use mathlib.Core.Bool.{false, _&&_, true, not}
-use mathlib.Core.Path.{subst, _≡_, refl, sym, ap, _∙_}
+use Prim.Native.Nat.{ℕ, _≤_, _<_, _-_}
+use mathlib.Core.Bool.{Bool, true, not, _&&_}
+use mathlib.Core.Path.{subst, _≡_, refl, sym, ap, ap₂, _∙_}
 use native.Mathlib.Omega.{arith}
-use lib.ListN.{length}
+use lib.ListN.{getD}
 use borrow.Author.Needs.{needs}
 use Rattle.theory.specs.Problem.{fits}
-use Rattle.request.specs.View.{view, viewDemand, demandAt, widthOf}
-use Rattle.request.specs.ViewLaws.{demands-shown, demand-shown, mapped-length}
-use Rattle.request.specs.Sharing.{shareLink, problemOf}
+use Rattle.meeting.specs.Compact.{shareBit}
+use Rattle.meeting.specs.inner.Small.{problemIn}
 use Rattle.meeting.specs.Plan.{startAt}
 use Rattle.plan.specs.inner.Rows.{tooClose, rowsBefore}
 use Rattle.plan.specs.TurnLaws.{row-clash, row-clear, row-none, close-clash, not-close-apart}
@@ -16,66 +15,87 @@ use Rattle.plan.proofs.check.clashes_before.Statement.{statement}
 use Rattle.plan.proofs.check.clashes_before.Tie as tie
 
 abbrev Inv-loop : tie.InvT-loop
-Inv-loop starts k request guard demand j₀ j =
+Inv-loop starts k compact guard width word j₀ j =
     (j ≤ k) ×
-    (fits (problemOf (view request)) (rowsBefore starts k) k (startAt starts k) ≡
-    fits (problemOf (view request)) (rowsBefore starts j) k (startAt starts k))
+    (fits (problemIn compact) (rowsBefore starts k) k (startAt starts k) ≡
+    fits (problemIn compact) (rowsBefore starts j) k (startAt starts k))
 
 abbrev μ-loop : tie.MeasureT-loop
-μ-loop starts k request guard demand j₀ j = j
+μ-loop starts k compact guard width word j₀ j = j
 
-mul-demand : tie.Need-mul-demand Inv-loop μ-loop
-mul-demand c = search needs
+-- a listing position of a sound request is below 200
+below : (c : tie.Start Inv-loop μ-loop) → c .args .k < 200
+below c = omega (arith, c .pre .0 .most-demands, c .pre .1 .1)
 
-element-copy-out-demand : tie.Need-element-copy-out-demand Inv-loop μ-loop
-element-copy-out-demand c = search needs
+mul-width : tie.Need-mul-width Inv-loop μ-loop
+mul-width c = omega (arith, below (c .before))
+
+element-copy-out-width : tie.Need-element-copy-out-width Inv-loop μ-loop
+element-copy-out-width c = below (c .before)
+
+mul-word : tie.Need-mul-word Inv-loop μ-loop
+mul-word c = omega (arith, below (c .before .before))
+
+element-copy-out-word : tie.Need-element-copy-out-word Inv-loop μ-loop
+element-copy-out-word c = below (c .before .before)
 
 loop-holds : tie.Need-loop-holds Inv-loop μ-loop
 loop-holds c = (search needs, refl)
 
-sub-earlier : tie.Need-sub-earlier Inv-loop μ-loop
-sub-earlier c = search needs
+sub-too-close : tie.Need-sub-too-close Inv-loop μ-loop
+sub-too-close c = search needs
 
-mul-earlier : tie.Need-mul-earlier Inv-loop μ-loop
-mul-earlier c = search needs
+mul-too-close : tie.Need-mul-too-close Inv-loop μ-loop
+mul-too-close c = omega (arith, below (c .before .before .before .before .before), c .before .loop .inv .0)
 
-element-copy-out-earlier : tie.Need-element-copy-out-earlier Inv-loop μ-loop
-element-copy-out-earlier c = search needs
+shared-slice-read-too-close : tie.Need-shared-slice-read-too-close Inv-loop μ-loop
+shared-slice-read-too-close c = search needs
 
-sub-clash : tie.Need-sub-clash Inv-loop μ-loop
-sub-clash c = search needs
+sub-too-close-2 : tie.Need-sub-too-close-2 Inv-loop μ-loop
+sub-too-close-2 c = search needs
 
-mul-clash : tie.Need-mul-clash Inv-loop μ-loop
-mul-clash c = search needs
+mul-too-close-2 : tie.Need-mul-too-close-2 Inv-loop μ-loop
+mul-too-close-2 c = omega (arith, below (c .before .before .before .before .before .before), c .before .before .loop .inv .0)
 
-shared-slice-read-clash : tie.Need-shared-slice-read-clash Inv-loop μ-loop
-shared-slice-read-clash c = search needs
+element-copy-out-too-close : tie.Need-element-copy-out-too-close Inv-loop μ-loop
+element-copy-out-too-close c = omega (arith, below (c .before .before .before .before .before .before), c .before .before .loop .inv .0)
 
-mul-clash-2 : tie.Need-mul-clash-2 Inv-loop μ-loop
-mul-clash-2 c = search needs
+mul-too-close-3 : tie.Need-mul-too-close-3 Inv-loop μ-loop
+mul-too-close-3 c = omega (arith, below (c .before .before .before .before .before .before .before))
 
-shared-slice-read-clash-2 : tie.Need-shared-slice-read-clash-2 Inv-loop μ-loop
-shared-slice-read-clash-2 c = search needs
+shared-slice-read-too-close-2 : tie.Need-shared-slice-read-too-close-2 Inv-loop μ-loop
+shared-slice-read-too-close-2 c = search needs
 
-clash-requires : tie.Need-clash-requires Inv-loop μ-loop
-clash-requires c κs = search needs
+too-close-requires : tie.Need-too-close-requires Inv-loop μ-loop
+too-close-requires c κs = search needs
+
+sub-share-bit : tie.Need-sub-share-bit Inv-loop μ-loop
+sub-share-bit c = search needs
+
+mul-share-bit : tie.Need-mul-share-bit Inv-loop μ-loop
+mul-share-bit c = omega (arith, below (c .before .before .before .before .before .before .before .before .before), c .before .before .before .before .before .loop .inv .0)
+
+element-copy-out-share-bit : tie.Need-element-copy-out-share-bit Inv-loop μ-loop
+element-copy-out-share-bit c = omega (arith, below (c .before .before .before .before .before .before .before .before .before), c .before .before .before .before .before .loop .inv .0)
+
+share-bit-requires : tie.Need-share-bit-requires Inv-loop μ-loop
+share-bit-requires c κs = search needs
+
+-- the two tests are those of a clash with the demand before
+clash-is : (c : tie.After-share-bit Inv-loop μ-loop) →
+    (c .before .before .too-close .result && c .share-bit .result)
+    ≡ (tooClose (c .before .before .before .before .before .before .before .before .before .before .before .args .t1 .guard) (startAt (c .before .before .before .before .before .before .before .before .before .before .before .args .starts .now) (c .before .before .before .before .before .before .before .loop .j - 1)) (getD (c .before .before .before .before .before .before .before .before .before .before .before .args .t1 .widths) (c .before .before .before .before .before .before .before .loop .j - 1) 0) (startAt (c .before .before .before .before .before .before .before .before .before .before .before .args .starts .now) (c .before .before .before .before .before .before .before .before .before .before .before .args .k)) (getD (c .before .before .before .before .before .before .before .before .before .before .before .args .t1 .widths) (c .before .before .before .before .before .before .before .before .before .before .before .args .k) 0)
+    && shareBit (getD (c .before .before .before .before .before .before .before .before .before .before .before .args .t1 .words) (c .before .before .before .before .before .before .before .loop .j - 1) 0) (getD (c .before .before .before .before .before .before .before .before .before .before .before .args .t1 .words) (c .before .before .before .before .before .before .before .before .before .before .before .args .k) 0))
+unfolding startAt
+clash-is c = ap₂ (λ (close shared : Bool). close && shared) (c .before .before .too-close .ensures) (c .share-bit .ensures)
 
 returns : tie.Need-returns Inv-loop μ-loop
-unfolding startAt viewDemand view
 returns c =
-    let request = c .before .before .before .before .before .before .before .before .before .args .t1 in
-    let starts = c .before .before .before .before .before .before .before .before .before .args .starts .now in
-    let k = c .before .before .before .before .before .before .before .before .before .args .k in
-    let v = view request in
-    let P = problemOf v in
-    let j = c .before .before .before .before .before .before .loop .j in
-    let all : _≡_ {A = ℕ} (length (request .demands)) 200 = search (mapped-length, needs) in
-    let shown : length (v .demands) ≡ min (request .«demand_count») (length (request .demands)) = demands-shown request in
-    let answer : tooClose (v .band .guard) (startAt starts (j - 1)) (widthOf (demandAt (v .demands) (j - 1))) (startAt starts k) (widthOf (demandAt (v .demands) k))
-    && shareLink (demandAt (v .demands) (j - 1) .route) (demandAt (v .demands) k .route) ≡ true =
-    rw (demand-shown request (j - 1) (omega arith), demand-shown request k (omega arith)) (sym (c .before .clash .ensures) ∙ c .if1 .taken) in
-    let meets = close-clash v (j - 1) (startAt starts (j - 1)) k (startAt starts k) answer in
-    sym (ap not (c .before .before .before .before .before .before .loop .inv .1 ∙ row-clash P starts j k (startAt starts k) (omega arith) meets))
+    let a = c .before .before .before .before .before .before .before .before .before .before .before .before .args in
+    let starts = a .starts .now in
+    let j = c .before .before .before .before .before .before .before .before .loop .j in
+    let meets = close-clash (a .t1) (j - 1) (startAt starts (j - 1)) (a .k) (startAt starts (a .k)) (sym (clash-is (c .before)) ∙ c .if1 .taken) in
+    sym (ap not (c .before .before .before .before .before .before .before .before .loop .inv .1 ∙ row-clash (problemIn (a .t1)) starts j (a .k) (startAt starts (a .k)) (omega arith) meets))
 
 sub-j : tie.Need-sub-j Inv-loop μ-loop
 sub-j c = search needs
@@ -84,30 +104,20 @@ loop-less : tie.Need-loop-less Inv-loop μ-loop
 loop-less c = omega arith
 
 loop-again : tie.Need-loop-again Inv-loop μ-loop
-unfolding startAt viewDemand view
 loop-again c =
-    let request = c .before .before .before .before .before .before .before .before .before .args .t1 in
-    let starts = c .before .before .before .before .before .before .before .before .before .args .starts .now in
-    let k = c .before .before .before .before .before .before .before .before .before .args .k in
-    let v = view request in
-    let P = problemOf v in
-    let j = c .before .before .before .before .before .before .loop .j in
-    let all : _≡_ {A = ℕ} (length (request .demands)) 200 = search (mapped-length, needs) in
-    let shown : length (v .demands) ≡ min (request .«demand_count») (length (request .demands)) = demands-shown request in
-    let answer : tooClose (v .band .guard) (startAt starts (j - 1)) (widthOf (demandAt (v .demands) (j - 1))) (startAt starts k) (widthOf (demandAt (v .demands) k))
-    && shareLink (demandAt (v .demands) (j - 1) .route) (demandAt (v .demands) k .route) ≡ false =
-    rw (demand-shown request (j - 1) (omega arith), demand-shown request k (omega arith)) (sym (c .before .clash .ensures) ∙ c .if1 .left) in
-    let clear = not-close-apart v (j - 1) (startAt starts (j - 1)) k (startAt starts k) answer in
-    (omega arith, c .before .before .before .before .before .before .loop .inv .1 ∙ row-clear P starts j k (startAt starts k) (omega arith) clear)
+    let a = c .before .before .before .before .before .before .before .before .before .before .before .before .args in
+    let starts = a .starts .now in
+    let j = c .before .before .before .before .before .before .before .before .loop .j in
+    let clear = not-close-apart (a .t1) (j - 1) (startAt starts (j - 1)) (a .k) (startAt starts (a .k)) (sym (clash-is (c .before)) ∙ c .if1 .left) in
+    (omega arith, c .before .before .before .before .before .before .before .before .loop .inv .1 ∙ row-clear (problemIn (a .t1)) starts j (a .k) (startAt starts (a .k)) (omega arith) clear)
 
 returns-2 : tie.Need-returns-2 Inv-loop μ-loop
 returns-2 c =
-    let request = c .before .before .before .before .args .t1 in
-    let starts = c .before .before .before .before .args .starts .now in
-    let k = c .before .before .before .before .args .k in
-    let P = problemOf (view request) in
-    let none : fits P (rowsBefore starts (c .before .loop .j)) k (startAt starts k) ≡ true =
-    subst (λ (j : ℕ). fits P (rowsBefore starts j) k (startAt starts k) ≡ true) (omega arith) (row-none P starts k (startAt starts k)) in
+    let a = c .before .before .before .before .before .args in
+    let P = problemIn (a .t1) in
+    let starts = a .starts .now in
+    let none : fits P (rowsBefore starts (c .before .loop .j)) (a .k) (startAt starts (a .k)) ≡ true =
+    subst (λ (j : ℕ). fits P (rowsBefore starts j) (a .k) (startAt starts (a .k)) ≡ true) (omega arith) (row-none P starts (a .k) (startAt starts (a .k))) in
     sym (ap not (c .before .loop .inv .1 ∙ none))
 
 pub clashes-before-spec : {M : Type 1} → statement M
@@ -116,18 +126,24 @@ clashes-before-spec =
     (tie.spec
     Inv-loop
     μ-loop
-    mul-demand
-    element-copy-out-demand
+    mul-width
+    element-copy-out-width
+    mul-word
+    element-copy-out-word
     loop-holds
-    sub-earlier
-    mul-earlier
-    element-copy-out-earlier
-    sub-clash
-    mul-clash
-    shared-slice-read-clash
-    mul-clash-2
-    shared-slice-read-clash-2
-    clash-requires
+    sub-too-close
+    mul-too-close
+    shared-slice-read-too-close
+    sub-too-close-2
+    mul-too-close-2
+    element-copy-out-too-close
+    mul-too-close-3
+    shared-slice-read-too-close-2
+    too-close-requires
+    sub-share-bit
+    mul-share-bit
+    element-copy-out-share-bit
+    share-bit-requires
     returns
     sub-j
     loop-less

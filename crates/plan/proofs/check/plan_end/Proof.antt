@@ -1,58 +1,49 @@
 -- `plan::check::plan_end` meets its contract. Assumes nothing.
-use Prim.Native.Nat.{ℕ, _≤_, _-_, min, max}
-use mathlib.Core.Path.{_≡_, sym, ap, _∙_}
+use Prim.Native.Nat.{ℕ, _≤_, _-_, max}
+use mathlib.Core.List.{[]}
 use mathlib.Core.Logic.{⊎-elim}
+use mathlib.Core.Path.{_≡_, sym, ap, _∙_}
 use native.Mathlib.Omega.{arith}
-use mir.Syntax.{w16}
-use mir.Val.{Fits}
-use lib.ListN.{length, drop}
 use borrow.Author.Needs.{needs}
-use Rattle.request.specs.View.{view, viewDemand, widthOf}
-use Rattle.request.specs.ViewLaws.{demands-shown, demand-shown, mapped-length}
-use Rattle.meeting.specs.Plan.{startAt, endFrom, endOfPlan}
-use Rattle.plan.specs.CheckStartsLaws.{each-within}
+use Rattle.theory.specs.Problem.{planEnd}
+use Rattle.theory.specs.Orders.{countUp, listing}
+use Rattle.meeting.specs.inner.Small.{problemIn}
+use Rattle.meeting.specs.Plan.{startAt}
 use Rattle.plan.specs.TurnLaws.{end-turn, end-done}
 use Rattle.plan.proofs.check.plan_end.Statement.{statement}
 use Rattle.plan.proofs.check.plan_end.Tie as tie
 
 abbrev Inv-loop : tie.InvT-loop
-Inv-loop starts request count end₀ k₀ end k =
-    (k ≤ count) × (endFrom starts 0 (view request .demands) ≡ max end (endFrom starts k (drop k (view request .demands))))
+Inv-loop starts compact count end₀ k₀ end k =
+    (k ≤ count) ×
+    (planEnd (problemIn compact) [] (countUp count 0) (startAt starts) ≡ max end (planEnd (problemIn compact) [] (countUp (count - k) k) (startAt starts)))
 
 abbrev μ-loop : tie.MeasureT-loop
-μ-loop starts request count end₀ k₀ end k = count - k
+μ-loop starts compact count end₀ k₀ end k = count - k
 
 loop-holds : tie.Need-loop-holds Inv-loop μ-loop
-loop-holds c = (search needs, omega arith)
+loop-holds c =
+    let a = c .args in
+    let all : a .t1 .count - 0 ≡ a .t1 .count = omega arith in
+    (search needs, omega (arith, ap (λ (n : ℕ). planEnd (problemIn (a .t1)) [] (countUp n 0) (startAt (a .starts .now))) all))
 
-mul-demand : tie.Need-mul-demand Inv-loop μ-loop
-mul-demand c = search needs
+mul-width : tie.Need-mul-width Inv-loop μ-loop
+mul-width c = omega (arith, c .loop-test .taken, c .before .before .pre .0 .most-demands)
 
-element-copy-out-demand : tie.Need-element-copy-out-demand Inv-loop μ-loop
-element-copy-out-demand c = search needs
-
-width-of-requires : tie.Need-width-of-requires Inv-loop μ-loop
-width-of-requires c κs = search needs
+element-copy-out-width : tie.Need-element-copy-out-width Inv-loop μ-loop
+element-copy-out-width c = omega (arith, c .loop-test .taken, c .before .before .pre .0 .most-demands)
 
 mul-own : tie.Need-mul-own Inv-loop μ-loop
-mul-own c = search needs
+mul-own c = omega (arith, c .before .loop-test .taken, c .before .before .before .pre .0 .most-demands)
 
 shared-slice-read-own : tie.Need-shared-slice-read-own Inv-loop μ-loop
 shared-slice-read-own c = search needs
 
 add-own : tie.Need-add-own Inv-loop μ-loop
-unfolding startAt viewDemand
+unfolding startAt problemIn
 add-own c =
-    let request = c .before .before .before .before .before .before .args .t1 in
-    let starts = c .before .before .before .before .before .before .args .starts .now in
-    let v = view request in
-    let k = c .before .before .before .before .loop .k in
-    let all : _≡_ {A = ℕ} (length (request .demands)) 200 = search (mapped-length, needs) in
-    let shown : length (v .demands) ≡ min (request .«demand_count») (length (request .demands)) = demands-shown request in
-    let here = demand-shown request k (omega arith) in
-    let within = each-within (request .band .slots) starts (v .demands) (c .before .before .before .before .before .before .pre .1 .1) k (omega arith) in
-    let slots : Fits w16 (request .band .slots) = search needs in
-    omega (arith, within, c .before .width-of .ensures, ap widthOf here, slots)
+    let within = c .before .before .before .before .pre .1 .1 .each (c .before .before .before .loop .k) (c .before .before .loop-test .taken) in
+    omega (arith, within, c .before .before .before .before .pre .0 .most-slots)
 
 add-k : tie.Need-add-k Inv-loop μ-loop
 add-k c = search needs
@@ -61,29 +52,19 @@ loop-less : tie.Need-loop-less Inv-loop μ-loop
 loop-less c = omega arith
 
 loop-again : tie.Need-loop-again Inv-loop μ-loop
-unfolding startAt viewDemand
+unfolding startAt problemIn
 loop-again c =
-    let request = c .before .before .before .before .before .before .before .args .t1 in
-    let starts = c .before .before .before .before .before .before .before .args .starts .now in
-    let v = view request in
-    let k = c .before .before .before .before .before .loop .k in
-    let all : _≡_ {A = ℕ} (length (request .demands)) 200 = search (mapped-length, needs) in
-    let shown : length (v .demands) ≡ min (request .«demand_count») (length (request .demands)) = demands-shown request in
-    let here = ap widthOf (demand-shown request k (omega arith)) ∙ sym (c .before .before .width-of .ensures) in
-    let turn = end-turn starts (v .demands) k (omega arith) in
-    let so-far = c .before .before .before .before .before .loop .inv .1 in
-    (omega arith, ⊎-elim (λ w. omega (arith, turn, here, so-far)) (λ w. omega (arith, turn, here, so-far)) (c .if1 .came))
+    let a = c .before .before .before .before .before .args in
+    let at = c .before .before .before .before .loop in
+    let turn = end-turn (problemIn (a .t1)) (startAt (a .starts .now)) (a .t1 .count) (at .k) (c .before .before .before .loop-test .taken) in
+    (omega arith, ⊎-elim (λ w. omega (arith, turn, at .inv .1)) (λ w. omega (arith, turn, at .inv .1)) (c .if1 .came))
 
 returns : tie.Need-returns Inv-loop μ-loop
-unfolding endOfPlan
+unfolding listing
 returns c =
-    let request = c .before .before .before .args .t1 in
-    let starts = c .before .before .before .args .starts .now in
-    let v = view request in
-    let k = c .before .loop .k in
-    let all : _≡_ {A = ℕ} (length (request .demands)) 200 = search (mapped-length, needs) in
-    let shown : length (v .demands) ≡ min (request .«demand_count») (length (request .demands)) = demands-shown request in
-    sym (c .before .loop .inv .1 ∙ omega (arith, end-done starts (v .demands) k (omega arith)))
+    let a = c .before .before .args in
+    let at = c .before .loop in
+    sym (at .inv .1 ∙ omega (arith, end-done (problemIn (a .t1)) (startAt (a .starts .now)) (a .t1 .count) (at .k) (omega arith)))
 
 pub plan-end-spec : {M : Type 1} → statement M
 plan-end-spec =
@@ -92,9 +73,8 @@ plan-end-spec =
     Inv-loop
     μ-loop
     loop-holds
-    mul-demand
-    element-copy-out-demand
-    width-of-requires
+    mul-width
+    element-copy-out-width
     mul-own
     shared-slice-read-own
     add-own
