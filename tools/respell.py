@@ -205,6 +205,15 @@ def turn_edit(text, table):
     return "\n".join(out)
 
 
+def plain(path, text):
+    """Fields of records and cases of the worked calls keep the plain name: no function of that name is in their way."""
+    if path.startswith("crates/worked/"):
+        text = re.sub(r"\b(first_fit|check_starts)_lem\b", r"\1", text)
+    text = re.sub(r"(?<=\.)(end_within|ends_after|rows_read|some_link)_lem\b", r"\1", text)
+    text = re.sub(r"(?m)^( +)(end_within|ends_after|rows_read|some_link)_lem =(?= |$)", r"\1\2 =", text)
+    return re.sub(r"(?m)^( +pub )(end_within|ends_after|rows_read|some_link)_lem :", r"\1\2 :", text)
+
+
 def main():
     table, names = renaming()
     field_names = fields(names)
@@ -233,6 +242,12 @@ def main():
         new = job(old)
         if new != old:
             changed += 1
+            with open(path, "w", encoding="utf-8") as f:
+                f.write(new)
+    for path, _ in jobs:
+        old = read(path)
+        new = plain(path, old)
+        if new != old:
             with open(path, "w", encoding="utf-8") as f:
                 f.write(new)
     print(f"respell: {len(table)} names, {changed} files")

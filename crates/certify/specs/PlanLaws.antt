@@ -3,7 +3,7 @@ use Rattle.std.specs.Prelude.{ℕ, List, ◌≡◌}
 use Rattle.request.specs.declared.Checked.TheVariants as checked
 use Rattle.request.specs.View.{View}
 use Rattle.request.specs.Check.{then, check}
-use Rattle.request.specs.CheckLaws.{first_sound}
+use Rattle.request.proofs.CheckLaws.{first_sound}
 use Rattle.meeting.specs.Plan.{end_of_plan}
 use Rattle.plan.specs.declared.CheckReply.TheVariants.{Accepted}
 use Rattle.plan.specs.CheckStarts.{check_count, check_places, check_starts, starts_reply}

@@ -14,22 +14,22 @@ use Rattle.refusal.specs.declared.Refusal.TheVariants.{NoCertificate}
 use Rattle.refusal.specs.Told.{Told}
 use Rattle.refusal.specs.ToldLaws.{refusal_told_whole, refusal_told_fault}
 use Rattle.theory.specs.Problem.{Problem}
-use Rattle.theory.specs.TestLaws.{by_test, or_first, or_second}
-use Rattle.theory.specs.TriedLaws.{below_or_not}
+use Rattle.theory.proofs.TestLaws.{by_test, or_first, or_second}
+use Rattle.theory.proofs.TriedLaws.{below_or_not}
 use Rattle.theory.specs.Certificate.{Certificate, certified_end}
-use Rattle.theory.specs.CertificateLaws.{certificate_holds, certified_below, threes_enough}
+use Rattle.theory.proofs.CertificateLaws.{certificate_holds, certified_below, threes_enough}
 use Rattle.request.specs.declared.Checked.{Checked}
 use Rattle.request.specs.declared.Checked.TheVariants as checked
 use Rattle.request.specs.declared.Request.{Request}
 use Rattle.request.specs.View.{View, view}
 use Rattle.request.specs.Check.{must}
-use Rattle.request.specs.CheckLaws.{first_sound, next_sound, test_held}
+use Rattle.request.proofs.CheckLaws.{first_sound, next_sound, test_held}
 use Rattle.request.specs.Sharing.{problem_of}
 use Rattle.request.specs.Whole.{Whole, Counted}
 use Rattle.request.specs.Sound.{SoundRequest}
-use Rattle.request.specs.SoundLaws.{check_sound, whole_counted}
+use Rattle.request.proofs.SoundLaws.{check_sound, whole_counted}
 use Rattle.request.specs.inner.Limits.{Limits}
-use Rattle.request.specs.LimitsLaws.{sound_limits}
+use Rattle.request.proofs.LimitsLaws.{sound_limits}
 use Rattle.meeting.specs.Plan.{AllowedPlan, end_of_plan, start_at}
 use Rattle.meeting.specs.PlanLaws.{slots_to_ends}
 use Rattle.meeting.specs.PlanEndLaws.{plan_end_is}

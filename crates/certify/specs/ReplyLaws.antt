@@ -7,11 +7,11 @@ use borrow.Author.Tests.{le-leb, lt-leb, leb-true, eqb-true, eq-eqb, ne_eqb}
 use Rattle.refusal.specs.declared.Refusal.{Refusal}
 use Rattle.refusal.specs.declared.Refusal.TheVariants.{NoCertificate}
 use Rattle.theory.specs.Problem.{Problem}
-use Rattle.theory.specs.TestLaws.{and_first, and_second}
+use Rattle.theory.proofs.TestLaws.{and_first, and_second}
 use Rattle.request.specs.declared.Checked.{Checked}
 use Rattle.request.specs.declared.Checked.TheVariants as checked
 use Rattle.request.specs.Check.{then, must}
-use Rattle.request.specs.CheckLaws.{then_sound, then_refused, first_sound, next_sound, test_held}
+use Rattle.request.proofs.CheckLaws.{then_sound, then_refused, first_sound, next_sound, test_held}
 use Rattle.certify.specs.declared.Certified.TheVariants.{Best, AtLeast, Refused}
 use Rattle.certify.specs.Reply.{check_weights, check_sets, right_shape, end_told, told_after}
 use Rattle.certify.specs.inner.Sets.{checked_in, low_in, told_in}

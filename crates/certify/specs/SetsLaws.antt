@@ -10,7 +10,7 @@ use Rattle.refusal.specs.declared.Refusal.TheVariants.{NoCertificate}
 use Rattle.theory.specs.Problem.{Problem}
 use Rattle.request.specs.declared.Checked.TheVariants as checked
 use Rattle.request.specs.Check.{must}
-use Rattle.request.specs.CheckLaws.{then_sound, then_refused}
+use Rattle.request.proofs.CheckLaws.{then_sound, then_refused}
 use Rattle.certify.specs.Reply.{weight_of, check_weights, some_from, heavy_with, check_sets}
 use Rattle.certify.specs.inner.Sets.{pair_heavy}
 

@@ -3,7 +3,7 @@ use Prim.Native.Nat.{ℕ, suc, ◌+◌, ◌-◌, ◌*◌, ◌≤◌, ◌<◌}
 use Rattle.std.specs.Prelude.{List, ◌≡◌, get_or}
 use Rattle.std.proofs.Math.Path.{ap, ap₂}
 use native.Mathlib.Omega.{arith}
-use Rattle.std.proofs.Common.{mul-le-mul_left, mul_le_mul_right, add-one}
+use Rattle.std.proofs.Common.{mul-le-mul_left, mul-le-mul_right, add-one}
 use Rattle.theory.specs.Problem.{Problem}
 use Rattle.theory.specs.Orders.{count_up, listing}
 use Rattle.theory.specs.Certificate.{weighed}
@@ -14,7 +14,7 @@ use Rattle.certify.specs.inner.Sets.{SummedTo}
 pub small_product : (w x : ℕ) → w ≤ 255 → x ≤ 392 → w * x ≤ 99960
 small_product w x hw hx =
     let a : w * x ≤ w * 392 = mul-le-mul_left w hx in
-    let b : w * 392 ≤ 255 * 392 = mul_le_mul_right 392 hw in
+    let b : w * 392 ≤ 255 * 392 = mul-le-mul_right 392 hw in
     omega arith
 
 module _ (P : Problem) (G K : ℕ) (weights : List ℕ) where

@@ -1,4 +1,2 @@
 -- A request's numbers as columns, and their laws.
 pub mod Columns
-pub mod ColumnsLaws
-pub mod WholeLaws

@@ -5,11 +5,11 @@ use Rattle.std.proofs.Math.Bool.{true}
 use borrow.Author.Tests.{leb-true, eqb-true, le-leb, lt-leb, eq-eqb, ne_eqb}
 use Rattle.std.proofs.Math.Dec.{leb}
 use Rattle.refusal.specs.declared.Refusal.TheVariants.{PastEnd, WrongTag, WrongLength}
-use Rattle.theory.specs.TestLaws.{and_first, and_second}
+use Rattle.theory.proofs.TestLaws.{and_first, and_second}
 use Rattle.request.specs.declared.Checked.{Checked}
 use Rattle.request.specs.declared.Checked.TheVariants.{Sound, Refused}
 use Rattle.request.specs.Check.{then, must}
-use Rattle.request.specs.CheckLaws.{first_sound, next_sound, test_held}
+use Rattle.request.proofs.CheckLaws.{first_sound, next_sound, test_held}
 use Rattle.fields.specs.Field.{number16, body_length, field_end, check_field}
 use Rattle.fields.specs.inner.Holds.{FieldHolds}
 

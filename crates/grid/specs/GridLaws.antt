@@ -12,7 +12,7 @@ use Rattle.grid.specs.declared.Block.{Block}
 use Rattle.grid.specs.declared.BlockReply.{BlockReply}
 use Rattle.grid.specs.declared.BlockReply.TheVariants as block-reply
 use Rattle.grid.specs.Grid.{allowed_band, band_reply, allowed_width, end_within, central_number, central_mhz, frequency_of, frequency_reply, gap_of, even_natural, half_of, block_at, block_reply}
-use Rattle.theory.specs.TestLaws.{by_test}
+use Rattle.theory.proofs.TestLaws.{by_test}
 use Rattle.grid.specs.ReplyLaws.{frequency_outside, frequency_width, frequency_end, frequency_centred, block_outside, block_width, block_gap, at_odd, at_end, at_half}
 
 -- ---- the numbers alone

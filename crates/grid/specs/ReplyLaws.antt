@@ -3,7 +3,7 @@ use Rattle.std.specs.Prelude.{ℕ, ◌+◌, ◌-◌, ◌≤◌, ◌≡◌, refl,
 use Rattle.std.proofs.Common.{sym, ◌∙◌, arith, leb-true, leb-false, le-leb}
 use Rattle.std.proofs.lemmas.Bool.{lt-leb, not-true, not-false}
 use Rattle.refusal.specs.declared.Refusal.TheVariants.{BandOutside, BadWidth, EndAbove, NoBlock}
-use Rattle.theory.specs.TestLaws.{by_test}
+use Rattle.theory.proofs.TestLaws.{by_test}
 use Rattle.grid.specs.declared.Band.{Band}
 use Rattle.grid.specs.declared.BandReply.TheVariants as band-reply
 use Rattle.grid.specs.declared.FrequencyReply.TheVariants as frequency-reply

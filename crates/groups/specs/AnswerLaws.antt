@@ -6,14 +6,14 @@ use Rattle.std.proofs.Common.{sym, subst, ◌∙◌, arith, length-append, lengt
 use Rattle.std.proofs.Math.Path.{ap}
 use Rattle.refusal.specs.declared.Refusal.{Refusal}
 use Rattle.theory.specs.Problem.{Row, top, placed}
-use Rattle.theory.specs.FirstFitLaws.{top_placed}
+use Rattle.theory.proofs.FirstFitLaws.{top_placed}
 use Rattle.theory.specs.Arrange.{Arrange}
-use Rattle.theory.specs.ArrangeLaws.{arrange_length}
+use Rattle.theory.proofs.ArrangeLaws.{arrange_length}
 use Rattle.theory.specs.Orders.{listing}
-use Rattle.theory.specs.ListingLaws.{listing_length}
+use Rattle.theory.proofs.ListingLaws.{listing_length}
 use Rattle.theory.specs.Walk.{Best, none_met, met}
 use Rattle.theory.specs.Groups.{members}
-use Rattle.theory.specs.GroupsLaws.{grouped_met, members_arrange}
+use Rattle.theory.proofs.GroupsLaws.{grouped_met, members_arrange}
 use Rattle.theory.specs.inner.Grouped.{BestGroups}
 use Rattle.request.specs.declared.Checked.TheVariants as checked
 use Rattle.request.specs.View.{View}

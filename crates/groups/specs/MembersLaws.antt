@@ -8,12 +8,12 @@ use native.Mathlib.Omega.{arith}
 use Rattle.std.proofs.Math.ListN.{length, take, drop, length-append, drop_of_length-le}
 use Rattle.std.proofs.Math.Seq.{length-take-le}
 use Rattle.theory.specs.Arrange.{Arrange}
-use Rattle.theory.specs.ArrangeLaws.{arrange_mem, arrange_length}
+use Rattle.theory.proofs.ArrangeLaws.{arrange_mem, arrange_length}
 use Rattle.theory.specs.Orders.{count_up, listing}
-use Rattle.theory.specs.ListingLaws.{count_up-length, listing_length, listing_below}
+use Rattle.theory.proofs.ListingLaws.{count_up-length, listing_length, listing_below}
 use Rattle.theory.specs.Groups.{group_size, group_start, group, members}
-use Rattle.theory.specs.GroupsLaws.{group_next, groups_whole, starts_below, members_arrange}
-use Rattle.placing.specs.OrderLaws.{get_d_mem}
+use Rattle.theory.proofs.GroupsLaws.{group_next, groups_whole, starts_below, members_arrange}
+use Rattle.placing.proofs.OrderLaws.{get_d_mem}
 use Rattle.groups.specs.inner.Table.{GroupStarts}
 use Rattle.groups.specs.inner.Members.{Filled, WrittenTo}
 

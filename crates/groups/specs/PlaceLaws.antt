@@ -4,17 +4,17 @@ use Rattle.std.specs.Prelude.{Bool, false, ◌≡◌, refl, length, get_or, set}
 use mathlib.Core.List.{List, [], ◌∷◌, Memᴰ}
 use Rattle.std.proofs.Common.{⊎_elim, sym, ap, subst, ◌∙◌, arith, get_or-set_other}
 use Rattle.theory.specs.Problem.{Problem, Row, end_of, lowest, place, fill, top}
-use Rattle.theory.specs.ProblemLaws.{end_is, top_place, top_fill, place_is, fill_nil, fill_cons, fill_append}
+use Rattle.theory.proofs.ProblemLaws.{end_is, top_place, top_fill, place_is, fill_nil, fill_cons, fill_append}
 use Rattle.theory.specs.Orders.{count_up}
-use Rattle.theory.specs.ListingLaws.{count_up-append, count_up_last}
-use Rattle.theory.specs.TriedLaws.{below_or_not}
+use Rattle.theory.proofs.ListingLaws.{count_up-append, count_up_last}
+use Rattle.theory.proofs.TriedLaws.{below_or_not}
 use Rattle.board.specs.declared.Placement.{Placement}
 use Rattle.board.specs.declared.Spot.{Spot}
 use Rattle.board.specs.declared.Spot.TheVariants.{At, Nowhere}
 use Rattle.board.specs.Board.{board_problem, number_rows, placed_beside, placed_one}
-use Rattle.board.specs.BoardLaws.{spot_found, spot_none}
-use Rattle.board.specs.BesideLaws.{board_same, standing_more}
-use Rattle.board.specs.StandingLaws.{demand_end}
+use Rattle.board.proofs.BoardLaws.{spot_found, spot_none}
+use Rattle.board.proofs.BesideLaws.{board_same, standing_more}
+use Rattle.board.proofs.StandingLaws.{demand_end}
 use Rattle.board.specs.inner.Standing.{OnBoard, Standing}
 use Rattle.groups.specs.inner.Walk.{GroupAsked, GroupSoFar, GroupTried}
 

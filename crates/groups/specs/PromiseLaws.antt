@@ -10,18 +10,18 @@ use Rattle.std.proofs.Math.ListN.{length, take}
 use Rattle.refusal.specs.declared.Refusal.{Refusal}
 use Rattle.refusal.specs.Told.{Told}
 use Rattle.refusal.specs.ToldLaws.{refusal_told_whole, refusal_told_fault}
-use Rattle.theory.specs.AlikeLaws.{allowed_alike}
-use Rattle.theory.specs.FirstFitLaws.{placed_fill, placed_top}
+use Rattle.theory.proofs.AlikeLaws.{allowed_alike}
+use Rattle.theory.proofs.FirstFitLaws.{placed_fill, placed_top}
 use Rattle.theory.specs.Groups.{members}
-use Rattle.theory.specs.GroupsLaws.{grouped_none}
-use Rattle.theory.specs.GroupsAloneLaws as theory
-use Rattle.theory.specs.ListingLaws.{listing_below}
+use Rattle.theory.proofs.GroupsLaws.{grouped_none}
+use Rattle.theory.proofs.GroupsAloneLaws as theory
+use Rattle.theory.proofs.ListingLaws.{listing_below}
 use Rattle.theory.specs.Orders.{listing}
 use Rattle.theory.specs.Problem.{Problem, Row, Allowed, Fitted, placed, refused, fill, top}
-use Rattle.theory.specs.ProblemLaws.{top_nil}
+use Rattle.theory.proofs.ProblemLaws.{top_nil}
 use Rattle.theory.specs.Search as search
 use Rattle.theory.specs.Walk.{Best, none_met, met}
-use Rattle.theory.specs.SearchLaws.{search_promise}
+use Rattle.theory.proofs.SearchLaws.{search_promise}
 use Rattle.theory.specs.inner.Promises.{Grounds, Promise}
 use Rattle.theory.specs.inner.Tried.{ends_at}
 use Rattle.theory.specs.inner.Grouped.{reach}
@@ -32,8 +32,8 @@ use Rattle.request.specs.View.{View, view}
 use Rattle.request.specs.Check.{check}
 use Rattle.request.specs.Sharing.{problem_of}
 use Rattle.request.specs.Whole.{Whole}
-use Rattle.request.specs.SoundLaws.{check_sound, whole_counted}
-use Rattle.request.specs.LimitsLaws.{checked_limits}
+use Rattle.request.proofs.SoundLaws.{check_sound, whole_counted}
+use Rattle.request.proofs.LimitsLaws.{checked_limits}
 use Rattle.lent.specs.Lent.{check_rooms, unless_refused}
 use Rattle.lent.specs.LentLaws.{rooms_held, front_written}
 use Rattle.meeting.specs.Bound.{bound_of}
@@ -42,7 +42,7 @@ use Rattle.meeting.specs.Plan.{AllowedPlan, start_at}
 use Rattle.meeting.specs.PlanLaws.{slots_to_ends, ends_to_slots}
 use Rattle.placing.specs.FirstFit.{fitted}
 use Rattle.placing.specs.declared.PlacedReply.TheVariants.{Placed}
-use Rattle.placing.specs.FirstFitLaws.{order_placed, order_starts, order_blockers}
+use Rattle.placing.proofs.FirstFitLaws.{order_placed, order_starts, order_blockers}
 use Rattle.search.specs.declared.Outcome.{Outcome}
 use Rattle.search.specs.declared.Answer.{Answer}
 use Rattle.search.specs.declared.SearchReply.TheVariants as reply

@@ -6,11 +6,11 @@ use Rattle.std.proofs.Common.{ap₂, ◌∙◌, arith, leb-true, le-leb}
 use Rattle.std.proofs.lemmas.Bool.{lt-leb}
 use Rattle.refusal.specs.declared.Refusal.{Refusal}
 use Rattle.refusal.specs.declared.Refusal.TheVariants.{GroupsOutside}
-use Rattle.theory.specs.TestLaws.{and_first, and_second}
+use Rattle.theory.proofs.TestLaws.{and_first, and_second}
 use Rattle.request.specs.declared.Checked.TheVariants as checked
 use Rattle.request.specs.View.{View}
 use Rattle.request.specs.Check.{then, must, check}
-use Rattle.request.specs.CheckLaws.{then_sound, then_refused, first_sound, next_sound, test_held}
+use Rattle.request.proofs.CheckLaws.{then_sound, then_refused, first_sound, next_sound, test_held}
 use Rattle.lent.specs.Lent.{check_rooms}
 use Rattle.groups.specs.Reply.{groupable, check_groups}
 

@@ -7,20 +7,20 @@ use Rattle.std.proofs.Math.Dec.{leb}
 use Rattle.std.proofs.Math.ListN.{get_or}
 use borrow.Author.Tests.{le-leb, lt-leb}
 use Rattle.theory.specs.Problem.{Problem, Row, top}
-use Rattle.theory.specs.ProblemLaws.{fill_nil, top_nil}
+use Rattle.theory.proofs.ProblemLaws.{fill_nil, top_nil}
 use Rattle.theory.specs.Orders.{listing, spread, orders_of, orders}
-use Rattle.theory.specs.ListingLaws.{listing_length}
+use Rattle.theory.proofs.ListingLaws.{listing_length}
 use Rattle.theory.specs.Walk.{none_met, met}
 use Rattle.theory.specs.Groups as theory
 use Rattle.theory.specs.Groups.{members}
-use Rattle.theory.specs.GroupsLaws.{mark_of, lead_with, best_leads}
-use Rattle.theory.specs.GroupWalkLaws.{orders_spread, unmarked_listing}
+use Rattle.theory.proofs.GroupsLaws.{mark_of, lead_with, best_leads}
+use Rattle.theory.proofs.GroupWalkLaws.{orders_spread, unmarked_listing}
 use Rattle.theory.specs.inner.Grouped.{reach, below, unmarked}
 use Rattle.theory.specs.inner.Tried.{Lead, try, lead_by, ends_at, Leads, unbeaten, taken}
-use Rattle.theory.specs.TriedLaws.{try_leads}
+use Rattle.theory.proofs.TriedLaws.{try_leads}
 use Rattle.board.specs.inner.Standing.{Standing}
-use Rattle.board.specs.BesideLaws.{standing_none}
-use Rattle.placing.specs.PlacementLaws.{clean_slate}
+use Rattle.board.proofs.BesideLaws.{standing_none}
+use Rattle.placing.proofs.PlacementLaws.{clean_slate}
 use Rattle.request.specs.View.{View}
 use Rattle.request.specs.Sound.{SoundRequest}
 use Rattle.request.specs.Sharing as sharing

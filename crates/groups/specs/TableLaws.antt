@@ -7,10 +7,10 @@ use Rattle.std.proofs.Math.Path.{sym, ap, fun_ext}
 use Rattle.std.proofs.Math.ListN.{get_or, get_or-eq_default}
 use Rattle.std.proofs.lemmas.List.{length-map}
 use Rattle.theory.specs.Orders.{listing}
-use Rattle.theory.specs.ListingLaws.{listing_length}
-use Rattle.theory.specs.TriedLaws.{below_or_not}
+use Rattle.theory.proofs.ListingLaws.{listing_length}
+use Rattle.theory.proofs.TriedLaws.{below_or_not}
 use Rattle.theory.specs.Groups.{group_size, group_start}
-use Rattle.theory.specs.GroupsLaws.{group_next, groups_whole, starts_below}
+use Rattle.theory.proofs.GroupsLaws.{group_next, groups_whole, starts_below}
 use Rattle.meeting.specs.declared.Compact.{Compact}
 use Rattle.meeting.specs.Compact.{share_bit, word_row}
 use Rattle.meeting.specs.CompactLaws.{filled_whole, nobody_behind, bit_swap, row_empty, bit_entry}

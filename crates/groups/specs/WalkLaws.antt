@@ -11,18 +11,18 @@ use Rattle.std.proofs.lemmas.List.{take-set-le}
 use Rattle.std.proofs.Math.Seq.{get_or-set_same}
 use Rattle.std.proofs.lemmas.Bool.{eqb-false}
 use Rattle.theory.specs.Problem.{Problem, Row, lowest, place, fill, top}
-use Rattle.theory.specs.ProblemLaws.{end_is, fill_cons, top_fill, top_place}
-use Rattle.theory.specs.TestLaws.{by_test}
-use Rattle.theory.specs.TriedLaws.{below_or_not}
+use Rattle.theory.proofs.ProblemLaws.{end_is, fill_cons, top_fill, top_place}
+use Rattle.theory.proofs.TestLaws.{by_test}
+use Rattle.theory.proofs.TriedLaws.{below_or_not}
 use Rattle.theory.specs.Orders.{count_up, spread, orders_of}
 use Rattle.theory.specs.Groups.{group_size, group_start, group}
-use Rattle.theory.specs.GroupsLaws.{group_next, group_some, groups_whole, starts_below}
-use Rattle.theory.specs.GroupWalkLaws.{reach_more, branch_left, whole_leads, siblings_more, siblings_none, orders_spread, unmarked_passed, unmarked_first, unmarked_up_to, unmarked_with, unmarked_without}
+use Rattle.theory.proofs.GroupsLaws.{group_next, group_some, groups_whole, starts_below}
+use Rattle.theory.proofs.GroupWalkLaws.{reach_more, branch_left, whole_leads, siblings_more, siblings_none, orders_spread, unmarked_passed, unmarked_first, unmarked_up_to, unmarked_with, unmarked_without}
 use Rattle.theory.specs.inner.Grouped.{reach, below, unmarked}
 use Rattle.theory.specs.inner.Tried.{Lead, try, lead_by, ends_at}
 use Rattle.board.specs.inner.Standing.{OnBoard, Standing}
 use Rattle.lent.specs.Lent.{over}
-use Rattle.placing.specs.PlacementLaws.{clean_slate}
+use Rattle.placing.proofs.PlacementLaws.{clean_slate}
 use Rattle.search.specs.inner.Arrays.{problem_of}
 use Rattle.groups.specs.Reply.{order_told}
 use Rattle.groups.specs.inner.Walk.{GroupAsked, GroupTried, Ready, Held, tried_group, tried_from}

@@ -14,7 +14,7 @@ use Rattle.request.specs.declared.Checked.{Checked}
 use Rattle.request.specs.declared.Checked.TheVariants.{Sound, Refused}
 use Rattle.request.specs.declared.Written.TheVariants.{Wrote, Refused as Unwritten}
 use Rattle.request.specs.Check.{then, must}
-use Rattle.request.specs.CheckLaws.{then_sound, then_refused, first_sound, next_sound, test_held}
+use Rattle.request.proofs.CheckLaws.{then_sound, then_refused, first_sound, next_sound, test_held}
 use Rattle.lent.specs.Lent.{check_room, check_rooms, over, write_answer, write_reply}
 
 -- enough room

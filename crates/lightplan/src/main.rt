@@ -1,5 +1,6 @@
 // The program: takes a request file from standard input, searches it and prints the answer. What it prints is made by `report`. It has no
 // exit status to tell with: where its input cannot be read it prints no answer, and where its output is lost it says so.
+#![tactic(auto)]
 use libc::STDOUT_FILENO;
 
 mod input;

@@ -6,7 +6,7 @@ use Rattle.std.proofs.Math.ListN.{get_or-eq_default}
 use Rattle.request.specs.declared.Demand.{Demand}
 use Rattle.request.specs.declared.Request.{Request}
 use Rattle.request.specs.View.{DemandView, view_demand, view, no_demand, demand_at, no_entry}
-use Rattle.request.specs.ViewLaws.{map_at, demands_shown, demand_shown}
+use Rattle.request.proofs.ViewLaws.{map_at, demands_shown, demand_shown}
 use Rattle.meeting.specs.inner.Meeting.{DemandCount}
 
 -- as many are asked for as it says where the array has room for them

@@ -8,12 +8,12 @@ use native.Mathlib.Omega.{arith}
 use Rattle.std.proofs.Math.Seq.{get_or-append_seam}
 use Rattle.theory.specs.Problem.{Allowed, plan_end}
 use Rattle.theory.specs.inner.Bound.{widths, AllMeet}
-use Rattle.theory.specs.BoundLaws.{constant_bound}
+use Rattle.theory.proofs.BoundLaws.{constant_bound}
 use Rattle.theory.specs.Earlier.{Chained, Rising}
-use Rattle.theory.specs.EarlierLaws.{rising_no_repeats}
+use Rattle.theory.proofs.EarlierLaws.{rising_no_repeats}
 use Rattle.theory.specs.Orders.{listing}
-use Rattle.theory.specs.ListingLaws.{listing_mem}
-use Rattle.theory.specs.TestLaws.{by_test}
+use Rattle.theory.proofs.ListingLaws.{listing_mem}
+use Rattle.theory.proofs.TestLaws.{by_test}
 use Rattle.request.specs.View.{DemandView, View, demand_at, no_demand, width_of}
 use Rattle.request.specs.Check.{has}
 use Rattle.request.specs.Sound.{SoundRequest}

@@ -11,8 +11,8 @@ use Rattle.std.proofs.lemmas.List.{length-map}
 use Rattle.std.proofs.Math.ListN.{get_or-eq_default}
 use borrow.Author.Tests.{ltb-true, ltb-false}
 use Rattle.theory.specs.Orders.{listing}
-use Rattle.theory.specs.ListingLaws.{listing_length}
-use Rattle.theory.specs.TestLaws.{by_test}
+use Rattle.theory.proofs.ListingLaws.{listing_length}
+use Rattle.theory.proofs.TestLaws.{by_test}
 use Rattle.theory.specs.Problem.{Problem}
 use Rattle.request.specs.View.{View, DemandView, demand_at, no_demand, width_of}
 use Rattle.request.specs.Sound.{SoundRequest}

@@ -9,11 +9,11 @@ use Rattle.std.proofs.Math.Seq.{ext_get_or}
 use Rattle.std.proofs.lemmas.Bool.{eqb-false}
 use Rattle.request.specs.declared.Demand.{Demand}
 use Rattle.request.specs.View.{View, view_demand, no_demand, demand_at, no_entry, DemandView}
-use Rattle.request.specs.ViewLaws.{map_at}
+use Rattle.request.proofs.ViewLaws.{map_at}
 use Rattle.request.specs.Check.{has}
-use Rattle.theory.specs.TestLaws.{by_test}
+use Rattle.theory.proofs.TestLaws.{by_test}
 use Rattle.theory.specs.Orders.{count_up, listing}
-use Rattle.theory.specs.ListingLaws.{count_up-length, listing_length}
+use Rattle.theory.proofs.ListingLaws.{count_up-length, listing_length}
 use Rattle.request.specs.Sharing.{share_link, problem_of}
 use Rattle.theory.specs.Problem.{Row, start_in}
 use Rattle.meeting.specs.Plan.{start_at, starts_of}

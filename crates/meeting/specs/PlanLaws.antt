@@ -6,11 +6,11 @@ use Rattle.std.proofs.Common.{inl, inr, ⊎_elim, sym, subst, ◌∙◌, arith}
 use lib.Dec.{eqb}
 use borrow.Author.Tests.{eqb-true, eq-eqb}
 use Rattle.theory.specs.Problem.{end_of, apart, Allowed}
-use Rattle.theory.specs.ProblemLaws.{fits_nil}
-use Rattle.theory.specs.ApartLaws.{unjoined_apart, before_apart, after_apart, apart_cases}
-use Rattle.theory.specs.TestLaws.{by_test}
+use Rattle.theory.proofs.ProblemLaws.{fits_nil}
+use Rattle.theory.proofs.ApartLaws.{unjoined_apart, before_apart, after_apart, apart_cases}
+use Rattle.theory.proofs.TestLaws.{by_test}
 use Rattle.theory.specs.Orders.{listing}
-use Rattle.theory.specs.ListingLaws.{listing_below, listing_mem}
+use Rattle.theory.proofs.ListingLaws.{listing_below, listing_mem}
 use Rattle.request.specs.View.{View, demand_at, width_of}
 use Rattle.request.specs.Check.{has}
 use Rattle.request.specs.Sound.{SoundRequest}

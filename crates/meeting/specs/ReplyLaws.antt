@@ -10,8 +10,8 @@ use Rattle.request.specs.declared.Request.{Request}
 use Rattle.request.specs.View.{View, view}
 use Rattle.request.specs.Check.{check}
 use Rattle.request.specs.Whole.{Whole}
-use Rattle.request.specs.SoundLaws.{check_sound, whole_counted}
-use Rattle.request.specs.LimitsLaws.{checked_limits}
+use Rattle.request.proofs.SoundLaws.{check_sound, whole_counted}
+use Rattle.request.proofs.LimitsLaws.{checked_limits}
 use Rattle.meeting.specs.declared.BoundReply.{BoundReply}
 use Rattle.meeting.specs.declared.BoundReply.TheVariants as bound-reply
 use Rattle.meeting.specs.Bound.{bound_of}

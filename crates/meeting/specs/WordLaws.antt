@@ -11,7 +11,7 @@ use Rattle.std.proofs.Math.Pow.{pow-lt}
 use Rattle.std.proofs.lemmas.Bool.{eqb-false, lt-leb, not-true}
 use Rattle.request.specs.Check.{has}
 use Rattle.request.specs.Sharing.{share_link}
-use Rattle.theory.specs.TestLaws.{by_test, not_both, not_true_false, and_both, and_first, and_second, or_first, or_second}
+use Rattle.theory.proofs.TestLaws.{by_test, not_both, not_true_false, and_both, and_first, and_second, or_first, or_second}
 use Rattle.meeting.specs.Compact.{link_bit, word_of, share_bit}
 use Rattle.meeting.specs.PlanLaws.{shared_link, sharing, share_swap}
 use Rattle.meeting.specs.MeetingLaws.{has_take}

@@ -1,4 +1,5 @@
 // Meeting: who shares a link with whom, and a request's bound.
+#![tactic(auto)]
 ghost use Rattle.std.specs.Prelude.{◌≡◌};
 ghost use Rattle.request.specs.View.{view};
 ghost use Rattle.meeting.specs.Reply.{bound_reply};

@@ -14,8 +14,8 @@ use Rattle.request.specs.declared.Checked.TheVariants.{Sound, Refused}
 use Rattle.request.specs.View.{View, view}
 use Rattle.request.specs.Sound.{SoundRequest}
 use Rattle.request.specs.Whole.{Whole, Counted}
-use Rattle.request.specs.SoundLaws.{check_sound, sound_check, whole_counted}
-use Rattle.request.specs.LimitsLaws.{sound_limits}
+use Rattle.request.proofs.SoundLaws.{check_sound, sound_check, whole_counted}
+use Rattle.request.proofs.LimitsLaws.{sound_limits}
 use Rattle.request.specs.Sharing.{problem_of}
 use Rattle.meeting.specs.Bound.{bound_of}
 use Rattle.meeting.specs.Plan.{start_at, AllowedPlan, end_of_plan}
@@ -23,8 +23,8 @@ use Rattle.meeting.specs.PlanLaws.{slots_to_ends, ends_to_slots}
 use Rattle.meeting.specs.BoundLaws.{plan_above_bound}
 use Rattle.placing.specs.declared.PlacedReply.TheVariants.{Placed}
 use Rattle.placing.specs.FirstFit.{check_first_fit, fitted, fitted_reply, first_fit_reply, first_fit_starts, placed_told}
-use Rattle.placing.specs.FirstFitLaws.{placed_told_whole}
-use Rattle.placing.specs.PromiseLaws.{end_given, request_sound, room_enough, first_fit_promise}
+use Rattle.placing.proofs.FirstFitLaws.{placed_told_whole}
+use Rattle.placing.proofs.PromiseLaws.{end_given, request_sound, room_enough, first_fit_promise}
 use Rattle.plan.specs.declared.CheckReply.{CheckReply}
 use Rattle.plan.specs.declared.CheckReply.TheVariants.{Accepted, Refused as Rejected}
 use Rattle.plan.specs.CheckStarts.{check_starts, reply_with, starts_reply, accepted_told}

@@ -10,18 +10,18 @@ use Rattle.refusal.specs.declared.Refusal.{Refusal}
 use Rattle.refusal.specs.declared.Refusal.TheVariants.{NoRow, EndAbove, Clash}
 use Rattle.grid.specs.Grid.{end_within}
 use Rattle.theory.specs.Problem.{Problem, Row, end_of, apart, fits, Allowed}
-use Rattle.theory.specs.ProblemLaws.{fits_nil, fits_with, fits_first, fits_rest}
-use Rattle.theory.specs.ApartLaws.{apart_swap}
-use Rattle.theory.specs.TestLaws.{by_test}
+use Rattle.theory.proofs.ProblemLaws.{fits_nil, fits_with, fits_first, fits_rest}
+use Rattle.theory.proofs.ApartLaws.{apart_swap}
+use Rattle.theory.proofs.TestLaws.{by_test}
 use Rattle.theory.specs.Orders.{listing}
-use Rattle.theory.specs.ListingLaws.{listing_below, listing_mem}
+use Rattle.theory.proofs.ListingLaws.{listing_below, listing_mem}
 use Rattle.request.specs.declared.Checked.{Checked}
 use Rattle.request.specs.declared.Checked.TheVariants.{Sound, Refused}
 use Rattle.request.specs.View.{DemandView, View, demand_at, width_of}
 use Rattle.request.specs.Check.{then, must, check}
-use Rattle.request.specs.CheckLaws.{then_sound, then_refused, first_sound, next_sound, test_held}
+use Rattle.request.proofs.CheckLaws.{then_sound, then_refused, first_sound, next_sound, test_held}
 use Rattle.request.specs.Sharing.{problem_of}
-use Rattle.request.specs.SoundLaws.{not_refused, passed}
+use Rattle.request.proofs.SoundLaws.{not_refused, passed}
 use Rattle.meeting.specs.Plan.{start_at}
 use Rattle.meeting.specs.PlanLaws.{share_swap}
 use Rattle.plan.specs.CheckStarts.{check_count, check_end, check_ends, check_clash, check_clashes, check_places, check_starts}

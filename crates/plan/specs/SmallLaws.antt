@@ -11,7 +11,7 @@ use Rattle.theory.specs.Orders.{listing}
 use Rattle.request.specs.declared.Checked.TheVariants.{Sound}
 use Rattle.request.specs.View.{DemandView, View, demand_at, width_of}
 use Rattle.request.specs.Check.{then, must}
-use Rattle.request.specs.CheckLaws.{first_sound}
+use Rattle.request.proofs.CheckLaws.{first_sound}
 use Rattle.request.specs.Sound.{SoundRequest}
 use Rattle.request.specs.Sharing.{problem_of}
 use Rattle.request.specs.inner.Limits.{Limits}

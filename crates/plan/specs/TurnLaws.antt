@@ -11,8 +11,8 @@ use Rattle.refusal.specs.declared.Refusal.TheVariants.{EndAbove, Clash}
 use Rattle.grid.specs.Grid.{end_within}
 use Rattle.theory.specs.Problem.{Problem, end_of, apart, fits, top, plan_end}
 use Rattle.theory.specs.Orders.{count_up}
-use Rattle.theory.specs.ApartLaws.{clash_facts, clash_from}
-use Rattle.theory.specs.TestLaws.{not_false_true, not_both, and_first, and_second, and_both}
+use Rattle.theory.proofs.ApartLaws.{clash_facts, clash_from}
+use Rattle.theory.proofs.TestLaws.{not_false_true, not_both, and_first, and_second, and_both}
 use Rattle.request.specs.declared.Checked.{Checked}
 use Rattle.request.specs.declared.Checked.TheVariants.{Sound, Refused}
 use Rattle.request.specs.Check.{then, must}

@@ -1,4 +1,5 @@
 // Plans: starts checked.
+#![tactic(auto)]
 use refusal::Refusal;
 
 mod check;

@@ -1,4 +1,5 @@
 // Plan files, read and written.
+#![tactic(auto)]
 mod read;
 mod write;
 

@@ -8,13 +8,13 @@ use Rattle.request.specs.declared.Link.{Link}
 use Rattle.request.specs.declared.Checked.TheVariants.{Sound, Refused}
 use Rattle.request.specs.View.{DemandView, demand_at, idents, width_of}
 use Rattle.request.specs.Check.{check_links, check_demand, check_demands}
-use Rattle.request.specs.CheckLaws.{first_sound, next_sound, width_allowed, hops_allowed}
-use Rattle.request.specs.SoundLaws.{not_refused, sound_passes}
+use Rattle.request.proofs.CheckLaws.{first_sound, next_sound, width_allowed, hops_allowed}
+use Rattle.request.proofs.SoundLaws.{not_refused, sound_passes}
 use Rattle.request.specs.Encoding.{two_bytes, field, link_field, link_fields, demand_fields}
 use Rattle.reading.specs.Reading.{link_in, check_link_field, demands_begin, demand_tag, check_new_demand, check_demand_field, links_end, links_read, read_links, demands_read, read_demands}
 use Rattle.fields.specs.FieldLaws.{field_sound, byte_at, left_over}
 use Rattle.reading.specs.LinksLaws.{link_sound, link_end, links_done, links_more}
-use Rattle.request.specs.ViewLaws.{idents_length, idents_more}
+use Rattle.request.proofs.ViewLaws.{idents_length, idents_more}
 use Rattle.reading.specs.DemandsLaws.{demand_sound, demand_then, demand_end, demands_done, demands_more}
 use Rattle.reading.specs.FieldLaws.{link_there, demand_there}
 use Rattle.reading.specs.inner.Fields.{LinkThere}
@@ -101,7 +101,7 @@ demands_back (d ∷ more) (suc left) S links s at before k fuel few slots within
     let grown = length-append before (d ∷ []) in
     demands_more left S links s at before (λ (z : at ≡ length s). omega arith) good ∙
     rw (demand_end s at field, there.same)
-    (demands_back more left S links s (at + 7 + d.hops) (before ++ (d ∷ [])) (k + 1) (omega arith) (omega arith) slots there.end_within_lem there.behind
+    (demands_back more left S links s (at + 7 + d.hops) (before ++ (d ∷ [])) (k + 1) (omega arith) (omega arith) slots there.end_within there.behind
     (rw (idents_more before d) (next_sound (check_demand S links (idents before) k d) next sound))
     (λ (j : ℕ) (h : j < length more). counted (suc j) (omega arith)) (λ (j : ℕ) (h : j < length more). named (suc j) (omega arith)) ∙
     rw (append_assoc before (d ∷ []) more))

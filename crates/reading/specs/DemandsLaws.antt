@@ -19,13 +19,13 @@ use Rattle.fields.specs.Field.{number16, body_length, field_end, check_field}
 use Rattle.reading.specs.Reading.{demand_tag, demand_in, check_new_demand, check_demand_field, demands_refused, demands_read, next_demands, read_demands}
 use Rattle.request.specs.Packing.{padded, empty_demand, pack_demand}
 use Rattle.reading.specs.inner.PartsPacking.{pack_demands}
-use Rattle.request.specs.CheckLaws.{first_sound, next_sound, test_held}
+use Rattle.request.proofs.CheckLaws.{first_sound, next_sound, test_held}
 use Rattle.fields.specs.FieldLaws.{field_holds, field_within}
-use Rattle.request.specs.PackingLaws.{length_padded, take_padded, set_padded, view_packed}
+use Rattle.request.proofs.PackingLaws.{length_padded, take_padded, set_padded, view_packed}
 use Rattle.fields.specs.inner.Holds.{FieldHolds}
 use Rattle.reading.specs.inner.Fields.{NewDemandHolds}
 use Rattle.reading.specs.inner.SoFar.{DemandsSoFar}
-use Rattle.request.specs.ViewLaws.{idents_length}
+use Rattle.request.proofs.ViewLaws.{idents_length}
 
 module _ (S : ℕ) (links : List Link) (earlier : List ℕ) (at : ℕ) (d : DemandView) where
   -- 6: the 201st demand

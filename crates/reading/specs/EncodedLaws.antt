@@ -8,14 +8,14 @@ use Rattle.request.specs.declared.Link.{Link}
 use Rattle.request.specs.declared.Checked.TheVariants.{Sound, Refused}
 use Rattle.request.specs.View.{DemandView, demand_at, idents}
 use Rattle.request.specs.Check.{allowed_hops, check_links, check_demand, check_demands}
-use Rattle.theory.specs.TestLaws.{by_test, and_first, and_both}
-use Rattle.request.specs.CheckLaws.{then_sound, next_sound, first_sound, demand_passes, by_check}
+use Rattle.theory.proofs.TestLaws.{by_test, and_first, and_both}
+use Rattle.request.proofs.CheckLaws.{then_sound, next_sound, first_sound, demand_passes, by_check}
 use Rattle.request.specs.Encoding.{link_field, demand_field, link_fields, demand_fields}
 use Rattle.fields.specs.Field.{number16, body_length, check_field}
 use Rattle.reading.specs.Reading.{link_in, check_link_field, demand_tag, demand_in, check_new_demand, check_demand_field, links_end, links_refused, links_read, read_links, demands_refused, demands_read, read_demands}
 use Rattle.fields.specs.FieldLaws.{field_holds, field_within}
 use Rattle.reading.specs.LinksLaws.{link_holds, link_end, links_done, links_fault, links_more}
-use Rattle.request.specs.ViewLaws.{idents_length, idents_more}
+use Rattle.request.proofs.ViewLaws.{idents_length, idents_more}
 use Rattle.reading.specs.DemandsLaws.{demand_holds, demand_counted, demand_end, demands_done, demands_fault, demands_more}
 use Rattle.reading.specs.FieldLaws.{link_written, demand_written}
 use Rattle.fields.specs.inner.Holds.{FieldHolds}

@@ -8,7 +8,7 @@ use Rattle.request.specs.View.{DemandView}
 use Rattle.request.specs.Encoding.{two_bytes, bits16, field, band_field, link_field, tag_of, number_asked, demand_field}
 use Rattle.fields.specs.Field.{number16, body_length}
 use Rattle.reading.specs.Reading.{band_in, link_in, demand_tag, demand_in}
-use Rattle.request.specs.SignedLaws.{signed_of_bits, bits_of_signed, bits_fit}
+use Rattle.request.proofs.SignedLaws.{signed_of_bits, bits_of_signed, bits_fit}
 use Rattle.fields.specs.inner.Holds.{FieldHolds}
 use Rattle.reading.specs.inner.Fields.{BandThere, LinkThere, DemandThere}
 use Rattle.request.specs.RoundTrip.{Bytes}
@@ -68,7 +68,7 @@ demand_there s at d rest within e ident fits counted some few =
       sound_field = record { within = omega arith; tagged = tag_stands s at d.asked tagged; long_enough = omega arith; short_enough = omega arith };
       same =
           rw (number_at s at d.ident bytes 3 (at + 3) e ident refl refl refl, number_at s at number bytes 5 (at + 5) e fits refl refl refl, tagged, asked_back d.asked, hops, behind-seven, take_at d.route rest d.hops counted);
-      end_within_lem = omega arith;
+      end_within = omega arith;
       behind = sym (drop-drop d.hops (at + 7) s) ∙ ap (drop d.hops) behind-seven ∙ drop_at d.route rest d.hops counted;
     }
 

@@ -17,7 +17,7 @@ use Rattle.reading.specs.Reading.{refused, band_in, check_band_field, LinksRead,
 use Rattle.request.specs.Packing.{padded, pack}
 use Rattle.reading.specs.inner.PartsPacking.{pack_links, pack_demands, band_read}
 use Rattle.reading.specs.FilePacking.{pack_reading}
-use Rattle.request.specs.PackingLaws.{take_padded}
+use Rattle.request.proofs.PackingLaws.{take_padded}
 
 -- 20: a file above the limit
 pub file_too_long : (s : List ℕ) → 8128 < length s → read_file s ≡ refused (FileTooLong 8128)

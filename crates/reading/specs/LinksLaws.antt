@@ -15,9 +15,9 @@ use Rattle.fields.specs.Field.{number16, body_length, field_end, check_field}
 use Rattle.reading.specs.Reading.{link_in, check_link_field, links_end, links_refused, links_read, next_links, read_links}
 use Rattle.request.specs.Packing.{padded}
 use Rattle.reading.specs.inner.PartsPacking.{pack_links}
-use Rattle.request.specs.CheckLaws.{first_sound, next_sound, test_held}
+use Rattle.request.proofs.CheckLaws.{first_sound, next_sound, test_held}
 use Rattle.fields.specs.FieldLaws.{field_holds}
-use Rattle.request.specs.PackingLaws.{set_padded}
+use Rattle.request.proofs.PackingLaws.{set_padded}
 use Rattle.fields.specs.inner.Holds.{FieldHolds}
 use Rattle.reading.specs.inner.Fields.{LinkHolds}
 use Rattle.reading.specs.inner.SoFar.{LinksSoFar}

@@ -5,7 +5,7 @@ use Rattle.refusal.specs.declared.Refusal.{Refusal}
 use Rattle.refusal.specs.declared.Refusal.TheVariants.{WrongTag, BandOutside}
 use Rattle.grid.specs.declared.BandReply.TheVariants as band-reply
 use Rattle.grid.specs.Grid.{allowed_band, band_reply}
-use Rattle.theory.specs.TestLaws.{by_test}
+use Rattle.theory.proofs.TestLaws.{by_test}
 use Rattle.request.specs.Encoding.{signed16}
 use Rattle.fields.specs.Field.{number16, check_field}
 use Rattle.reading.specs.declared.Reading.{Reading}
@@ -14,7 +14,7 @@ use Rattle.reading.specs.inner.PartsPacking.{band_read}
 use Rattle.request.specs.declared.Checked.TheVariants.{Sound, Refused}
 use Rattle.request.specs.Check.{then, must}
 use Rattle.reading.specs.Reading.{band_in, check_band_field, read_file}
-use Rattle.request.specs.CheckLaws.{first_sound, next_sound, test_held}
+use Rattle.request.proofs.CheckLaws.{first_sound, next_sound, test_held}
 use Rattle.fields.specs.inner.Holds.{FieldHolds}
 use Rattle.fields.specs.FieldLaws.{field_holds}
 

@@ -6,12 +6,12 @@ use Rattle.std.specs.Int.{w16}
 use Rattle.grid.specs.declared.Band.{Band}
 use Rattle.grid.specs.Grid.{allowed_edge, allowed_slots, allowed_guard, allowed_band}
 use Rattle.request.specs.View.{DemandView, View, view_demand, view, no_link, demand_at}
-use Rattle.theory.specs.TestLaws.{and_first}
+use Rattle.theory.proofs.TestLaws.{and_first}
 use Rattle.request.specs.inner.Limits.{Limits}
 use Rattle.request.specs.Encoding.{demand_field, demand_fields, encode}
-use Rattle.request.specs.EncodingLaws.{demand_bytes, file_bytes}
+use Rattle.request.proofs.EncodingLaws.{demand_bytes, file_bytes}
 use Rattle.request.specs.Packing.{padded, empty_demand, pack_demand, pack}
-use Rattle.request.specs.PackingLaws.{take_padded, view_packed}
+use Rattle.request.proofs.PackingLaws.{take_padded, view_packed}
 
 -- an allowed lower edge has 16 bits
 pub edge_fits : (n0 : ℤ) → allowed_edge n0 ≡ true → SFits w16 n0

@@ -1,4 +1,6 @@
 // The refusals: one case for each numbered fault of the rules, holding the place where it was found.
+#![tactic(auto)]
+
 ghost use Rattle.std.specs.Prelude.{◌≡◌};
 ghost use Rattle.refusal.specs.Refusal.{number_of, place_of};
 

@@ -1,6 +1,7 @@
 // Makes the calls that docs/REPLAY.md numbers from bytes on standard input and prints one line for each, so that a program in any
 // language can test them, lent buffers included. A frame is the call's number (1 byte), the length of its body (4 bytes) and the body. All
 // numbers stand with their high byte first.
+#![tactic(auto)]
 ghost use Rattle.std.specs.Prelude.{◌≡◌, length};
 
 use buffers::held_bytes;

@@ -7,19 +7,19 @@ use Rattle.std.proofs.Math.Path.{ap, ap₂}
 use Rattle.std.proofs.Common.{subst, ◌∙◌, arith, add-one, leb-true, leb-false, drop_of_length-le, take_all}
 use Rattle.std.proofs.Math.ListN.{length, length-map}
 use Rattle.std.proofs.Math.Seq.{get_or-take}
-use Rattle.theory.specs.TestLaws.{by_test}
+use Rattle.theory.proofs.TestLaws.{by_test}
 use Rattle.theory.specs.Problem.{fill, start_in}
-use Rattle.theory.specs.ProblemLaws.{end_is}
+use Rattle.theory.proofs.ProblemLaws.{end_is}
 use Rattle.theory.specs.Orders.{count_up, listing}
-use Rattle.theory.specs.ListingLaws.{listing_mem, listing_length}
+use Rattle.theory.proofs.ListingLaws.{listing_mem, listing_length}
 use Rattle.request.specs.declared.Request.{Request}
 use Rattle.request.specs.declared.Checked.TheVariants as checked
 use Rattle.request.specs.View.{View, view, demand_at, width_of}
 use Rattle.request.specs.Check.{check}
 use Rattle.request.specs.Whole.{Whole}
 use Rattle.request.specs.Sound.{SoundRequest}
-use Rattle.request.specs.SoundLaws.{check_sound, whole_counted}
-use Rattle.request.specs.LimitsLaws.{checked_limits}
+use Rattle.request.proofs.SoundLaws.{check_sound, whole_counted}
+use Rattle.request.proofs.LimitsLaws.{checked_limits}
 use Rattle.request.specs.Sharing.{problem_of}
 use Rattle.meeting.specs.Plan.{start_at, starts_of}
 use Rattle.meeting.specs.PlanLaws.{slots_to_ends}

@@ -13,7 +13,7 @@ use Rattle.grid.specs.SignedLaws.{mag_sum, mag_6250}
 use Rattle.request.specs.declared.Request.{Request}
 use Rattle.request.specs.View.{DemandView, View, view, view_demand, demand_at, no_demand, no_entry, width_of}
 use Rattle.request.specs.Sound.{SoundRequest}
-use Rattle.request.specs.ViewLaws.{demands_shown, demand_shown}
+use Rattle.request.proofs.ViewLaws.{demands_shown, demand_shown}
 use Rattle.report.specs.declared.Page.{Page}
 use Rattle.report.specs.Text.{appended}
 use Rattle.report.specs.TextLaws.{appended_twice}

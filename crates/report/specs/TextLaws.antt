@@ -2,7 +2,7 @@
 use Rattle.std.specs.Prelude.{ℕ, zero, suc, ◌+◌, ◌/◌, ◌%◌, ◌^◌, ◌≤◌, ◌<◌, List, [], ◌∷◌, ◌++◌, ◌≡◌, refl, length, set, ltb}
 use Rattle.std.proofs.Common.{ap, ap₂, ◌∙◌, arith, length-append, ltb-true, ltb-false, lt-ltb, le-ltb}
 use Rattle.std.proofs.lemmas.List.Edits.{sets}
-use Rattle.theory.specs.TestLaws.{by_test}
+use Rattle.theory.proofs.TestLaws.{by_test}
 use Rattle.report.specs.declared.Page.{Page}
 use Rattle.report.specs.Text.{digits, decimal, appended}
 

@@ -15,7 +15,7 @@ use Rattle.request.specs.declared.Demand.{Demand}
 use Rattle.request.specs.declared.Request.{Request}
 use Rattle.request.specs.Whole.{Whole}
 use Rattle.request.specs.View.{view_demand, view, no_entry}
-use Rattle.request.specs.ViewLaws.{mapped_length, demand_shown, demands_shown}
+use Rattle.request.proofs.ViewLaws.{mapped_length, demand_shown, demands_shown}
 use Rattle.request.specs.RoundTrip.{Bytes, Idents16}
 use Rattle.request.specs.contracts.Demand as demand
 use Rattle.request.specs.contracts.Request as request

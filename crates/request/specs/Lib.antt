@@ -1,25 +1,13 @@
 -- What a request is, when it is sound, which problem it poses, and what it is as a file.
 pub mod View
-pub mod ViewLaws
 pub mod Check
 pub mod DemandTest
-pub mod CheckLaws
-pub mod RouteLaws
-pub mod PathLaws
 pub mod Steps
-pub mod StepsLaws
 pub mod Sound
 pub mod Whole
-pub mod SoundLaws
-pub mod LimitsLaws
 pub mod Encoding
-pub mod EncodingLaws
-pub mod SignedLaws
 pub mod RoundTrip
 pub mod Packing
-pub mod PackingLaws
 pub mod Sharing
-pub mod RateLaws
 pub mod Told
-pub mod ToldLaws
 pub mod inner

@@ -29,7 +29,7 @@ pub record SoundRequest (v : View) : Type 0 where
   -- the band's numbers are within their ranges
   pub band_allowed : allowed_band v.band ≡ true
   -- there are 1 to 64 links, each between two different nodes
-  pub some_link_lem : 1 ≤ v.link_count
+  pub some_link : 1 ≤ v.link_count
   pub at_most_64_links : v.link_count ≤ 64
   pub two_nodes : (k : ℕ) → k < v.link_count → (link_at v.links k).from ≢ (link_at v.links k).to
   -- there are 0 to 200 demands, each ident used once, each demand sound

@@ -1,4 +1,5 @@
 // Requests: a band, its links and the demands on them.
+#![tactic(auto)]
 use grid::Band;
 use refusal::Refusal;
 

@@ -5,7 +5,7 @@ use lib.ListN.{length}
 use mir.Val.{Val}
 use denote.Laws.{Is}
 use borrow.Author.Rules.{rules}
-use Rattle.request.specs.ViewLaws.{mapped_length}
+use Rattle.request.proofs.ViewLaws.{mapped_length}
 use Rattle.search.specs.declared.Walked.{Walked}
 use Rattle.search.specs.contracts.Walked as walked
 

@@ -4,7 +4,7 @@ use Rattle.std.specs.Prelude.{true, List, [], ◌∷◌, ◌++◌, ◌≡◌, re
 use Rattle.std.proofs.Common.{⊎_elim, sym, subst, ap, ◌∙◌, eq-or-lt_of_le, le_of_suc-le-suc, add-one, arith}
 use Rattle.std.proofs.Math.ListN.{get_or}
 use Rattle.theory.specs.Problem.{Problem, Row, end_of, apart, fits, top}
-use Rattle.theory.specs.ProblemLaws.{fits_nil, fits_with, fits_first, fits_rest, top_cons}
+use Rattle.theory.proofs.ProblemLaws.{fits_nil, fits_with, fits_first, fits_rest, top_cons}
 use Rattle.search.specs.inner.Arrays.{entries, rows_of}
 
 -- what holds below a number and at it holds below the next

@@ -9,27 +9,27 @@ use Rattle.std.proofs.Math.Path.{refl, sym, subst, ap, ap₂}
 use Rattle.std.proofs.Math.ListN.{length, take, drop}
 use Rattle.theory.specs.Earlier.{Lower}
 use Rattle.theory.specs.Orders.{factorial, orders, listing}
-use Rattle.theory.specs.OrdersLaws.{factorial_pos, orders_arrange, earlier_listed_before}
-use Rattle.theory.specs.ListingLaws.{listing_below, listing_length, listing_no_repeats, listing_rising}
+use Rattle.theory.proofs.OrdersLaws.{factorial_pos, orders_arrange, earlier_listed_before}
+use Rattle.theory.proofs.ListingLaws.{listing_below, listing_length, listing_no_repeats, listing_rising}
 use Rattle.theory.specs.Arrange.{Arrange}
-use Rattle.theory.specs.ArrangeLaws.{arrange_mem, arrange_length, arrange_no_repeats}
-use Rattle.theory.specs.EarlierLaws.{lower_earlier}
-use Rattle.theory.specs.AlikeLaws.{plan_end_alike, allowed_alike}
+use Rattle.theory.proofs.ArrangeLaws.{arrange_mem, arrange_length, arrange_no_repeats}
+use Rattle.theory.proofs.EarlierLaws.{lower_earlier}
+use Rattle.theory.proofs.AlikeLaws.{plan_end_alike, allowed_alike}
 use Rattle.theory.specs.Problem.{Problem, Row, fill, placed, start_in}
-use Rattle.theory.specs.ProblemLaws.{top_nil}
+use Rattle.theory.proofs.ProblemLaws.{top_nil}
 use Rattle.theory.specs.inner.Tried.{ends_at, FirstLowest}
 use Rattle.theory.specs.Walk.{Best, none_met, met}
 use Rattle.theory.specs.Search as theory
 use Rattle.theory.specs.inner.Promises as promises
-use Rattle.theory.specs.SearchLaws.{search_promise, search_steps, search_bound, search_same}
+use Rattle.theory.proofs.SearchLaws.{search_promise, search_steps, search_bound, search_same}
 use Rattle.request.specs.declared.Request.{Request}
 use Rattle.request.specs.declared.Checked.{Checked}
 use Rattle.request.specs.declared.Checked.TheVariants.{Sound, Refused}
 use Rattle.request.specs.View.{View, view, demand_at}
 use Rattle.request.specs.Check.{check}
 use Rattle.request.specs.Whole.{Whole}
-use Rattle.request.specs.LimitsLaws.{checked_limits}
-use Rattle.request.specs.SoundLaws.{check_sound, whole_counted}
+use Rattle.request.proofs.LimitsLaws.{checked_limits}
+use Rattle.request.proofs.SoundLaws.{check_sound, whole_counted}
 use Rattle.request.specs.Sound.{SoundRequest}
 use Rattle.request.specs.Sharing.{problem_of}
 use Rattle.meeting.specs.Bound.{bound_of}
@@ -45,9 +45,9 @@ use Rattle.search.specs.declared.SearchReply.TheVariants as reply
 use Rattle.search.specs.Reply.{Buffers, rooms_of, searched, outcome_told, answer_told, check_search, reply_to, buffers_kept, search_reply, buffers_after}
 use Rattle.lent.specs.Lent.{over, unless_refused}
 use Rattle.placing.specs.FirstFit.{blockers_of, fitted}
-use Rattle.placing.specs.FirstFitLaws.{blockers_long, blocker_listed}
-use Rattle.theory.specs.FirstFitLaws.{top_placed}
-use Rattle.placing.specs.LowestFreeLaws.{each_blocked}
+use Rattle.placing.proofs.FirstFitLaws.{blockers_long, blocker_listed}
+use Rattle.theory.proofs.FirstFitLaws.{top_placed}
+use Rattle.placing.proofs.LowestFreeLaws.{each_blocked}
 use Rattle.search.specs.ReplyLaws.{passed_searchable}
 use Rattle.search.specs.SettlesLaws.{settles_told, settling, twelve_within}
 use Rattle.search.specs.Demand3.{OrderOf, end_in_order, PlanShown, NoneLower, BestThereIs, NoPlanExists, StepsUsedUp, BestSoFar, NoneSoFar, Promised, fronts, RestKept, settles, steps_needed, SettlesExactly, AnswerKept}

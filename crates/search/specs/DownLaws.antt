@@ -8,10 +8,10 @@ use native.Mathlib.Omega.{arith}
 use Rattle.std.proofs.lemmas.Bool.{eqb-false}
 use Rattle.std.proofs.Math.ListN.{get_or}
 use Rattle.theory.specs.Problem.{Problem, Row, place, top, lowest}
-use Rattle.theory.specs.ProblemLaws.{place_is}
-use Rattle.theory.specs.TestLaws.{by_test}
+use Rattle.theory.proofs.ProblemLaws.{place_is}
+use Rattle.theory.proofs.TestLaws.{by_test}
 use Rattle.theory.specs.Walk.{Tally, siblings, walk}
-use Rattle.theory.specs.WalkBranchLaws.{walk_siblings}
+use Rattle.theory.proofs.WalkBranchLaws.{walk_siblings}
 use Rattle.search.specs.inner.Arrays.{problem_of, entries, rows_of}
 use Rattle.search.specs.ArraysLaws.{entries_none, entries_append, entries_last, entries_same, rows_more, rows_same}
 use Rattle.search.specs.inner.Kept.{Place, Listed, Passed, Lowest, Ready, Mendable, Mended, Brought}

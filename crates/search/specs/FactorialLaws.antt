@@ -1,14 +1,14 @@
 -- Factorials of the numbers of demands that a search takes.
 use Rattle.std.specs.Prelude.{ℕ, zero, suc, ◌+◌, ◌-◌, ◌*◌, ◌^◌, ◌≤◌, ◌<◌, ◌≡◌, refl}
-use Rattle.std.proofs.Common.{subst, ap, ◌∙◌, arith, le_refl, le_trans, mul_le_mul_right, one-mul, lit<}
+use Rattle.std.proofs.Common.{subst, ap, ◌∙◌, arith, le_refl, le_trans, mul-le-mul_right, one-mul, lit<}
 use Rattle.theory.specs.Orders.{factorial}
-use Rattle.theory.specs.OrdersLaws.{factorial_suc}
+use Rattle.theory.proofs.OrdersLaws.{factorial_suc}
 
 -- one more number never lowers the factorial
 pub factorial_rises : (n : ℕ) → factorial n ≤ factorial (suc n)
 factorial_rises n =
     rw factorial_suc
-    (subst (λ (m : ℕ). m ≤ suc n * factorial n) (one-mul (factorial n)) (mul_le_mul_right (factorial n) (omega arith)))
+    (subst (λ (m : ℕ). m ≤ suc n * factorial n) (one-mul (factorial n)) (mul-le-mul_right (factorial n) (omega arith)))
 
 -- a larger number has no smaller factorial
 pub factorial_grows : (d n : ℕ) → factorial n ≤ factorial (d + n)

@@ -6,12 +6,12 @@ use Rattle.std.proofs.Math.Path.{sym, ap, subst}
 use Rattle.std.proofs.Common.{ap₂, ◌∙◌, arith, ext_get_or, length-take-le, get_or-take, drop-cons}
 use Rattle.std.proofs.Math.ListN.{length, take}
 use Rattle.theory.specs.Problem.{Problem, Row, start_in}
-use Rattle.theory.specs.ProblemLaws.{top_nil}
+use Rattle.theory.proofs.ProblemLaws.{top_nil}
 use Rattle.theory.specs.Orders.{factorial, listing, count_up}
-use Rattle.theory.specs.ListingLaws.{listing_length, count_up-length}
+use Rattle.theory.proofs.ListingLaws.{listing_length, count_up-length}
 use Rattle.theory.specs.Walk.{none_met, met, Tally, walk}
 use Rattle.theory.specs.Search as theory
-use Rattle.theory.specs.SearchLaws.{search_too_narrow, search_walks, search_walk_some}
+use Rattle.theory.proofs.SearchLaws.{search_too_narrow, search_walks, search_walk_some}
 use Rattle.request.specs.View.{View}
 use Rattle.request.specs.Sound.{SoundRequest}
 use Rattle.request.specs.inner.Limits.{Limits}

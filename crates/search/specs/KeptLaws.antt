@@ -10,9 +10,9 @@ use native.Mathlib.Omega.{arith}
 use borrow.Author.Tests.{ltb-true, ltb-false}
 use Rattle.std.proofs.Math.ListN.{get_or}
 use Rattle.theory.specs.Problem.{Problem, Row, end_of, apart, fits, past, lowest, top}
-use Rattle.theory.specs.TestLaws.{by_test}
-use Rattle.theory.specs.ApartLaws.{unjoined_apart, before_apart, after_apart, apart_cases, clash_from}
-use Rattle.theory.specs.ProblemLaws.{lowest_fits, lowest_least, lowest_past, lowest_stays, lowest_jumps}
+use Rattle.theory.proofs.TestLaws.{by_test}
+use Rattle.theory.proofs.ApartLaws.{unjoined_apart, before_apart, after_apart, apart_cases, clash_from}
+use Rattle.theory.proofs.ProblemLaws.{lowest_fits, lowest_least, lowest_past, lowest_stays, lowest_jumps}
 use Rattle.search.specs.inner.Arrays.{problem_of, rows_of}
 use Rattle.search.specs.ArraysLaws.{rows_more, rows_same, rows_fit, rows_apart, rows_end, rows_top}
 use Rattle.search.specs.inner.Scan.{Clear, FirstClear}

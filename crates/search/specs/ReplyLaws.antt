@@ -13,7 +13,7 @@ use Rattle.request.specs.declared.Checked.{Checked}
 use Rattle.request.specs.declared.Checked.TheVariants.{Sound, Refused}
 use Rattle.request.specs.View.{View}
 use Rattle.request.specs.Check.{then, check, must}
-use Rattle.request.specs.CheckLaws.{then_sound, then_refused, first_sound, next_sound, test_held, by_check}
+use Rattle.request.proofs.CheckLaws.{then_sound, then_refused, first_sound, next_sound, test_held, by_check}
 use Rattle.meeting.specs.declared.BoundReply.TheVariants as bound-reply
 use Rattle.meeting.specs.Bound.{bound_of}
 use Rattle.meeting.specs.Reply.{bound_reply}

@@ -7,7 +7,7 @@ use Rattle.std.proofs.Math.Path.{refl, ap}
 use Rattle.std.proofs.Math.Numerals.{add-one}
 use native.Mathlib.Omega.{arith}
 use Rattle.std.proofs.Math.Dec.{ltb}
-use Rattle.theory.specs.TestLaws.{by_test, and_both, and_first, and_second}
+use Rattle.theory.proofs.TestLaws.{by_test, and_both, and_first, and_second}
 use Rattle.search.specs.inner.Scan.{look_past, Clear, FirstClear, Unpassed}
 
 module _ (near : List Bool) (low past : List ℕ) where

@@ -2,10 +2,10 @@
 use Rattle.std.specs.Prelude.{ℕ, ◌≤◌, [], ◌≡◌, refl}
 use Rattle.std.proofs.Common.{sym, subst, ◌∙◌, arith}
 use Rattle.theory.specs.Orders.{listing}
-use Rattle.theory.specs.ListingLaws.{listing_length}
+use Rattle.theory.proofs.ListingLaws.{listing_length}
 use Rattle.theory.specs.Problem.{Problem}
 use Rattle.theory.specs.Search as theory
-use Rattle.theory.specs.SettlesLaws.{enough_settles, settled_needed, settled_enough, needed_within_tree, tree_rises}
+use Rattle.theory.proofs.SettlesLaws.{enough_settles, settled_needed, settled_enough, needed_within_tree, tree_rises}
 use Rattle.request.specs.View.{View}
 use Rattle.request.specs.Sharing.{problem_of}
 use Rattle.meeting.specs.Bound.{bound_of}

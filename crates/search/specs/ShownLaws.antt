@@ -3,23 +3,23 @@ use Rattle.std.specs.Prelude.{ℕ, ◌≤◌, ◌⊎◌, ◌≡◌, length, take
 use mathlib.Core.List.{List, [], Memᴰ}
 use Rattle.std.proofs.Common.{⊎_elim, sym, ap, subst, ◌∙◌, arith}
 use Rattle.theory.specs.Problem.{Problem, Row, placed, fill, top, start_in}
-use Rattle.theory.specs.FillLaws.{fill_plan_end}
-use Rattle.theory.specs.FirstFitLaws.{top_placed}
-use Rattle.theory.specs.AlikeLaws.{plan_end_alike}
+use Rattle.theory.proofs.FillLaws.{fill_plan_end}
+use Rattle.theory.proofs.FirstFitLaws.{top_placed}
+use Rattle.theory.proofs.AlikeLaws.{plan_end_alike}
 use Rattle.theory.specs.Orders.{listing}
-use Rattle.theory.specs.ListingLaws.{listing_below, listing_no_repeats}
+use Rattle.theory.proofs.ListingLaws.{listing_below, listing_no_repeats}
 use Rattle.request.specs.declared.Request.{Request}
 use Rattle.request.specs.declared.Checked.TheVariants.{Sound}
 use Rattle.request.specs.View.{View, view}
 use Rattle.request.specs.Check.{check}
 use Rattle.request.specs.Whole.{Whole}
-use Rattle.request.specs.LimitsLaws.{checked_limits}
+use Rattle.request.proofs.LimitsLaws.{checked_limits}
 use Rattle.placing.specs.declared.PlacedReply.TheVariants as placed-reply
 use Rattle.request.specs.Sharing.{problem_of}
 use Rattle.meeting.specs.Plan.{start_at, starts_of}
 use Rattle.meeting.specs.PlanEndLaws.{plan_end_is}
 use Rattle.placing.specs.FirstFit.{blockers_of, fitted}
-use Rattle.placing.specs.FirstFitLaws.{order_placed, order_starts, order_blockers, blockers_long}
+use Rattle.placing.proofs.FirstFitLaws.{order_placed, order_starts, order_blockers, blockers_long}
 use Rattle.search.specs.declared.Outcome.{Outcome}
 use Rattle.search.specs.declared.Outcome.TheVariants.{Finished, Unfinished}
 use Rattle.search.specs.declared.Answer.{Answer}

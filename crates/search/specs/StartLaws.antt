@@ -6,18 +6,18 @@ use Rattle.std.proofs.Math.Path.{refl, ap}
 use native.Mathlib.Omega.{arith}
 use Rattle.std.proofs.lemmas.Bool.{eqb-false}
 use Rattle.std.proofs.lemmas.List.{get_or-replicate}
-use Rattle.theory.specs.ArrangeLaws.{arrange_back}
-use Rattle.theory.specs.ListingLaws.{listing_length, listing_mem}
+use Rattle.theory.proofs.ArrangeLaws.{arrange_back}
+use Rattle.theory.proofs.ListingLaws.{listing_length, listing_mem}
 use Rattle.theory.specs.Orders.{factorial, count_up, listing, orders_of}
-use Rattle.theory.specs.OrdersLaws.{orders_of_arrange}
+use Rattle.theory.proofs.OrdersLaws.{orders_of_arrange}
 use Rattle.theory.specs.Problem.{Problem, Row, fill, top, lowest, start_in}
-use Rattle.theory.specs.ProblemLaws.{lowest_nil, top_nil, start_here, start_other}
+use Rattle.theory.proofs.ProblemLaws.{lowest_nil, top_nil, start_here, start_other}
 use Rattle.theory.specs.Search.{fresh}
-use Rattle.theory.specs.TestLaws.{by_test}
+use Rattle.theory.proofs.TestLaws.{by_test}
 use Rattle.theory.specs.inner.Tried.{Leads, unbeaten, taken, Lead, lead_of, lead_by}
 use Rattle.theory.specs.Walk.{Best, none_met, met, Tally, siblings, walk}
-use Rattle.theory.specs.WalkBranchLaws.{walk_siblings}
-use Rattle.theory.specs.WalkLaws.{walk_walked, walked_leads, walk_mark, walk_steps_held}
+use Rattle.theory.proofs.WalkBranchLaws.{walk_siblings}
+use Rattle.theory.proofs.WalkLaws.{walk_walked, walked_leads, walk_mark, walk_steps_held}
 use Rattle.search.specs.inner.Arrays.{problem_of, entries, rows_of, course_of, best_of, tally_of}
 use Rattle.search.specs.ArraysLaws.{rows_none}
 use Rattle.search.specs.FactorialLaws.{factorial_most}

@@ -6,9 +6,9 @@ use native.Mathlib.Omega.{arith}
 use Rattle.std.proofs.Math.ListN.{get_or}
 use Rattle.std.proofs.Math.Seq.{get_or-set_other}
 use Rattle.theory.specs.Orders.{factorial}
-use Rattle.theory.specs.OrdersLaws.{factorial_suc, factorial_pos}
+use Rattle.theory.proofs.OrdersLaws.{factorial_suc, factorial_pos}
 use Rattle.theory.specs.Problem.{Problem, Row, end_of, place, top}
-use Rattle.theory.specs.ProblemLaws.{place_is, top_place}
+use Rattle.theory.proofs.ProblemLaws.{place_is, top_place}
 use Rattle.theory.specs.Walk.{Tally, stepped, leave, goes_on, complete}
 use Rattle.search.specs.inner.Arrays.{problem_of, entries, rows_of, course_of, tally_of}
 use Rattle.search.specs.ArraysLaws.{rows_more}

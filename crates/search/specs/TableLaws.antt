@@ -7,8 +7,8 @@ use Rattle.std.specs.Prelude.{◌≡◌}
 use Rattle.std.proofs.Math.Path.{ap, fun_ext}
 use Rattle.std.proofs.Math.ListN.{get_or, length-map, get_or-eq_default}
 use Rattle.theory.specs.Orders.{listing}
-use Rattle.theory.specs.ListingLaws.{listing_length}
-use Rattle.theory.specs.TriedLaws.{below_or_not}
+use Rattle.theory.proofs.ListingLaws.{listing_length}
+use Rattle.theory.proofs.TriedLaws.{below_or_not}
 use Rattle.meeting.specs.declared.Compact.{Compact}
 use Rattle.meeting.specs.Compact.{share_bit}
 use Rattle.meeting.specs.CompactLaws.{bit_swap}

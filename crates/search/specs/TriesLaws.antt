@@ -8,10 +8,10 @@ use native.Mathlib.Omega.{arith}
 use Rattle.std.proofs.Math.ListN.{get_or}
 use Rattle.theory.specs.Orders.{factorial}
 use Rattle.theory.specs.Problem.{Problem, Row, place, top}
-use Rattle.theory.specs.TestLaws.{by_test}
+use Rattle.theory.proofs.TestLaws.{by_test}
 use Rattle.theory.specs.Walk.{Tally, going, stepped, leave, exhausted, goes_on, complete, judge, step, siblings, walk}
-use Rattle.theory.specs.WalkBranchLaws.{judge_complete, judge_left, judge_deeper, step_spent, step_taken, siblings_none, siblings_on, siblings_stop}
-use Rattle.theory.specs.WalkLaws.{walk_mark, walk_counts}
+use Rattle.theory.proofs.WalkBranchLaws.{judge_complete, judge_left, judge_deeper, step_spent, step_taken, siblings_none, siblings_on, siblings_stop}
+use Rattle.theory.proofs.WalkLaws.{walk_mark, walk_counts}
 use Rattle.search.specs.inner.Arrays.{entries, rows_of}
 use Rattle.search.specs.ArraysLaws.{entries_none, entries_first, entries_last, entries_length}
 use Rattle.search.specs.inner.Tries.{reached_at, tried_from, gone_into}

@@ -15,9 +15,9 @@ use Rattle.request.specs.declared.Written.{Written}
 use Rattle.request.specs.declared.Written.TheVariants.{Wrote}
 use Rattle.request.specs.View.{DemandView, View, demand_at, idents, width_of}
 use Rattle.request.specs.Check.{known_asked}
-use Rattle.request.specs.SoundLaws.{check_sound}
+use Rattle.request.proofs.SoundLaws.{check_sound}
 use Rattle.reading.specs.Reading.{FileReading, refused, accepted, read_file}
-use Rattle.request.specs.CheckLaws.{by_check}
+use Rattle.request.proofs.CheckLaws.{by_check}
 use Rattle.request.specs.RoundTrip.{Bytes}
 use Rattle.writing.specs.RoundTripLaws.{accepted_encodes, one_encoding}
 use Rattle.meeting.specs.declared.BoundReply.{BoundReply}
@@ -26,8 +26,8 @@ use Rattle.meeting.specs.Bound.{bound_of}
 use Rattle.meeting.specs.ReplyLaws.{bound_answered}
 use Rattle.lent.specs.Lent.{over, write_answer}
 use Rattle.columns.specs.Columns.{widths, rate_asked, rates, hop_counts, route_links, link_ends, DemandBuffers, demand_rooms, demands_over, check_demand_columns, check_route_columns, demand_reply, route_reply}
-use Rattle.columns.specs.ColumnsLaws.{ends_length, demands_sound, demands_written, routes_written}
-use Rattle.columns.specs.WholeLaws.{columns_whole}
+use Rattle.columns.proofs.ColumnsLaws.{ends_length, demands_sound, demands_written, routes_written}
+use Rattle.columns.proofs.WholeLaws.{columns_whole}
 use Rattle.told.specs.declared.LightplanRequest.{LightplanRequest}
 use Rattle.told.specs.declared.LightplanRoutes.{LightplanRoutes}
 use Rattle.told.specs.RequestTold.{request_refused, request_told, request_after, request_entry, demands_read, routes_refused, routes_told, routes_entry, ends_read, hops_read, routes_read}

@@ -18,11 +18,11 @@ use Rattle.search.specs.declared.SearchReply.{SearchReply}
 use Rattle.search.specs.Reply.{Buffers, rooms_of, search_reply, buffers_after, answered_told}
 use Rattle.plan.specs.declared.CheckReply.{CheckReply}
 use Rattle.plan.specs.CheckStarts.{starts_reply, accepted_told}
-use Rattle.worked.specs.Calls.{Call, Said, says, says±, lent, rooms, three, shown, say_verdict, first_fit_lem, bound, search, check_starts_lem, to_frequency, from_frequency, read_request}
+use Rattle.worked.specs.Calls.{Call, Said, says, says±, lent, rooms, three, shown, say_verdict, first_fit, bound, search, check_starts, to_frequency, from_frequency, read_request}
 
 -- a call gives an answer: for every request that looks like the line's, every result and every buffer that meet the contract say it
 unfoldable pub Gives : Call → Said → Type 0
-Gives (first_fit_lem v order) said =
+Gives (first_fit v order) said =
     (q : Request) → view q ≡ v → (r : PlacedReply) (starts blockers : List ℕ) → r ≡ first_fit_reply (view q) order rooms →
     starts ≡ first_fit_starts (view q) order rooms lent → blockers ≡ first_fit_blockers (view q) order rooms lent →
     says (placed_told r) (starts ∷ blockers ∷ []) ≡ said
@@ -30,7 +30,7 @@ Gives (bound v) said = (q : Request) → view q ≡ v → (r : BoundReply) → r
 Gives (search v limit) said =
     (q : Request) → view q ≡ v → (r : SearchReply) (after : Buffers) → r ≡ search_reply (view q) limit (rooms_of three) →
     after ≡ buffers_after (view q) limit three → says (answered_told r) (shown after) ≡ said
-Gives (check_starts_lem v starts) said =
+Gives (check_starts v starts) said =
     (q : Request) → view q ≡ v → (r : CheckReply) → r ≡ starts_reply (view q) starts → says (accepted_told r) [] ≡ said
 Gives (to_frequency band start width) said = (r : FrequencyReply) → r ≡ frequency_reply band start width → says± (centre_told r) ≡ said
 Gives (from_frequency band n m) said = (r : BlockReply) → r ≡ block_reply band n m → says (block_told r) [] ≡ said

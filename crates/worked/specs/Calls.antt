@@ -17,10 +17,10 @@ use Rattle.plan.specs.CheckStarts.{starts_reply, accepted_told}
 
 -- a public call with its inputs; buffers are lent with room for four entries, all 7
 pub data Call : Type 0 where
-  first_fit_lem : View → List ℕ → Call
+  first_fit : View → List ℕ → Call
   bound : View → Call
   search : View → ℕ → Call
-  check_starts_lem : View → List ℕ → Call
+  check_starts : View → List ℕ → Call
   to_frequency : Band → ℕ → ℕ → Call
   from_frequency : Band → ℤ → ℕ → Call
   read_request : List ℕ → Call
@@ -62,11 +62,11 @@ say_read (refused why) = says (checked_told (checked.Refused why)) []
 -- what a call answers, and what it leaves in its buffers
 unfoldable pub say : Call → Said
 unfolding say_read
-say (first_fit_lem v order) =
+say (first_fit v order) =
     says (placed_told (first_fit_reply v order rooms)) (first_fit_starts v order rooms lent ∷ first_fit_blockers v order rooms lent ∷ [])
 say (bound v) = says (bound_told (bound_reply v)) []
 say (search v limit) = says (answered_told (search_reply v limit (rooms_of three))) (shown (buffers_after v limit three))
-say (check_starts_lem v starts) = says (accepted_told (starts_reply v starts)) []
+say (check_starts v starts) = says (accepted_told (starts_reply v starts)) []
 say (to_frequency band start width) = says± (centre_told (frequency_reply band start width))
 say (from_frequency band n m) = says (block_told (block_reply band n m)) []
 say (read_request file) = say_read (read_file file)

@@ -5,5 +5,3 @@ pub mod Calls
 pub mod Table
 pub mod Worked
 pub mod ByContract
-pub mod ByContractLaws
-pub mod SearchPlanLaws

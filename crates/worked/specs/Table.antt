@@ -1,7 +1,7 @@
 -- The table of the worked set: each call, and what it says.
 use Rattle.std.specs.Prelude.{ℕ, List, [], ◌∷◌, pos, negsuc}
 use Rattle.worked.specs.Requests.{band_of, R, booked, T, around, two_on_one_link, file_r, file_booked, file_ring}
-use Rattle.worked.specs.Calls.{Call, first_fit_lem, bound, search, check_starts_lem, to_frequency, from_frequency, read_request, Said, says, says±, reads}
+use Rattle.worked.specs.Calls.{Call, first_fit, bound, search, check_starts, to_frequency, from_frequency, read_request, Said, says, says±, reads}
 
 -- a call and its answer
 pub record Case : Type 0 where
@@ -32,7 +32,7 @@ none = 65535
 abbrev pub table : List Case
 table =
     -- c1: R in listing order
-    (first_fit_lem (R 384 0) (0 ∷ 1 ∷ 2 ∷ []) gives says (0, 6 ∷ []) ((0 ∷ 2 ∷ 3 ∷ 7 ∷ []) ∷ (none ∷ 0 ∷ 1 ∷ 7 ∷ []) ∷ []))
+    (first_fit (R 384 0) (0 ∷ 1 ∷ 2 ∷ []) gives says (0, 6 ∷ []) ((0 ∷ 2 ∷ 3 ∷ 7 ∷ []) ∷ (none ∷ 0 ∷ 1 ∷ 7 ∷ []) ∷ []))
     ∷ (bound (R 384 0) answers (4 ∷ []))
     -- c2: R searched, limit 5
     ∷ (search (R 384 0) 5 gives says (0, 1 ∷ 4 ∷ 4 ∷ 5 ∷ 2 ∷ 0 ∷ []) ((0 ∷ 3 ∷ 0 ∷ 7 ∷ []) ∷ (0 ∷ 2 ∷ 1 ∷ 7 ∷ []) ∷ (none ∷ 2 ∷ none ∷ 7 ∷ []) ∷ []))
@@ -41,10 +41,10 @@ table =
     -- c4: R in a band of 3 slots
     ∷ (search (R 3 0) 1000000 gives says (0, 2 ∷ 0 ∷ 4 ∷ 0 ∷ 0 ∷ 6 ∷ []) ((7 ∷ 7 ∷ 7 ∷ 7 ∷ []) ∷ (7 ∷ 7 ∷ 7 ∷ 7 ∷ []) ∷ (7 ∷ 7 ∷ 7 ∷ 7 ∷ []) ∷ []))
     -- R in a band of 3 slots by first fit: demand 2 is as wide as the band, and demand 1 stands in its way at slot 0
-    ∷ (first_fit_lem (R 3 0) (0 ∷ 1 ∷ 2 ∷ []) gives says (13, 2 ∷ 1 ∷ []) ((7 ∷ 7 ∷ 7 ∷ 7 ∷ []) ∷ (7 ∷ 7 ∷ 7 ∷ 7 ∷ []) ∷ []))
+    ∷ (first_fit (R 3 0) (0 ∷ 1 ∷ 2 ∷ []) gives says (13, 2 ∷ 1 ∷ []) ((7 ∷ 7 ∷ 7 ∷ 7 ∷ []) ∷ (7 ∷ 7 ∷ 7 ∷ 7 ∷ []) ∷ []))
     -- c5: R with guard 1
     ∷ (bound (R 384 1) answers (5 ∷ []))
-    ∷ (first_fit_lem (R 384 1) (0 ∷ 1 ∷ 2 ∷ []) gives says (0, 8 ∷ []) ((0 ∷ 3 ∷ 5 ∷ 7 ∷ []) ∷ (none ∷ 0 ∷ 1 ∷ 7 ∷ []) ∷ []))
+    ∷ (first_fit (R 384 1) (0 ∷ 1 ∷ 2 ∷ []) gives says (0, 8 ∷ []) ((0 ∷ 3 ∷ 5 ∷ 7 ∷ []) ∷ (none ∷ 0 ∷ 1 ∷ 7 ∷ []) ∷ []))
     ∷ (search (R 384 1) 1000000 gives says (0, 1 ∷ 5 ∷ 5 ∷ 5 ∷ 2 ∷ 0 ∷ []) ((0 ∷ 4 ∷ 0 ∷ 7 ∷ []) ∷ (0 ∷ 2 ∷ 1 ∷ 7 ∷ []) ∷ (none ∷ 2 ∷ none ∷ 7 ∷ []) ∷ []))
     -- c6: T, whose bound cannot be reached
     ∷ (bound (T 384) answers (2 ∷ []))
@@ -53,10 +53,10 @@ table =
     -- c7: T in a band of 2 slots
     ∷ (search (T 2) 1000000 gives says (0, 2 ∷ 0 ∷ 2 ∷ 15 ∷ 6 ∷ 0 ∷ []) ((7 ∷ 7 ∷ 7 ∷ 7 ∷ []) ∷ (7 ∷ 7 ∷ 7 ∷ 7 ∷ []) ∷ (7 ∷ 7 ∷ 7 ∷ 7 ∷ []) ∷ []))
     -- c8: R's last demand put on its second
-    ∷ (check_starts_lem (R 384 0) (0 ∷ 2 ∷ 2 ∷ []) refuses 18 at 2)
+    ∷ (check_starts (R 384 0) (0 ∷ 2 ∷ 2 ∷ []) refuses 18 at 2)
     -- c9: guard 1, width 2 at slot 0: start 2 clashes, start 3 does not
-    ∷ (check_starts_lem two_on_one_link (0 ∷ 2 ∷ []) refuses 18 at 1)
-    ∷ (check_starts_lem two_on_one_link (0 ∷ 3 ∷ []) answers (7 ∷ []))
+    ∷ (check_starts two_on_one_link (0 ∷ 2 ∷ []) refuses 18 at 1)
+    ∷ (check_starts two_on_one_link (0 ∷ 3 ∷ []) answers (7 ∷ []))
     -- c10: blocks and their grid numbers
     ∷ (to_frequency (band_of 384 0) 0 2 gives says± (0, negsuc 281 ∷ pos 2 ∷ pos 191337500 ∷ []))
     ∷ (to_frequency (band_of 384 0) 141 2 gives says± (0, pos 0 ∷ pos 2 ∷ pos 193100000 ∷ []))

@@ -14,11 +14,11 @@ use Rattle.request.specs.View.{View, view}
 use Rattle.request.specs.Check.{check}
 use Rattle.request.specs.Encoding.{band_field, link_fields, demand_fields, encode}
 use Rattle.request.specs.Whole.{Whole}
-use Rattle.request.specs.LimitsLaws.{checked_limits, checked_demands}
+use Rattle.request.proofs.LimitsLaws.{checked_limits, checked_demands}
 use Rattle.lent.specs.Lent.{check_room, filled}
 use Rattle.lent.specs.LentLaws.{sets_then, stored_front, room_enough, write_fault, write_short, write_fits, write_says}
 use Rattle.writing.specs.Writing.{written, out_after}
-use Rattle.request.specs.EncodingLaws.{band_bytes, links_bytes, file_bytes}
+use Rattle.request.proofs.EncodingLaws.{band_bytes, links_bytes, file_bytes}
 use Rattle.writing.specs.inner.Ready.{Ready}
 
 -- a sound request is ready to be written

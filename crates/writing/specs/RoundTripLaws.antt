@@ -13,13 +13,13 @@ use Rattle.request.specs.declared.Written.{Written}
 use Rattle.request.specs.declared.Written.TheVariants.{Wrote, Refused as Unwritten}
 use Rattle.request.specs.View.{DemandView, View, view, demand_at, idents}
 use Rattle.request.specs.Check.{then, check_band, check_some_link, check_links, check_link_count, check_demands, check_demand_count, check, must}
-use Rattle.request.specs.CheckLaws.{next_sound, band_passes, some_link_lem, few_links, few_demands, by_check}
+use Rattle.request.proofs.CheckLaws.{next_sound, band_passes, some_link_lem, few_links, few_demands, by_check}
 use Rattle.request.specs.Whole.{Whole, Counted}
-use Rattle.request.specs.SoundLaws.{all_pass, each_passes, check_sound, whole_counted}
+use Rattle.request.proofs.SoundLaws.{all_pass, each_passes, check_sound, whole_counted}
 use Rattle.request.specs.inner.Limits.{Limits}
-use Rattle.request.specs.LimitsLaws.{sound_limits}
+use Rattle.request.proofs.LimitsLaws.{sound_limits}
 use Rattle.request.specs.Encoding.{field, demand_field, band_field, link_fields, demand_fields, encode}
-use Rattle.request.specs.EncodingLaws.{links_bytes, file_bytes}
+use Rattle.request.proofs.EncodingLaws.{links_bytes, file_bytes}
 use Rattle.reading.specs.Reading.{FileReading, refused, accepted, band_in, check_band_field, LinksRead, links_refused, links_read, read_links, demands_begin, DemandsRead, demands_refused, demands_read, read_demands, with_demands, with_links, with_band, read_file}
 use Rattle.fields.specs.FieldLaws.{field_sound}
 use Rattle.reading.specs.ReadingLaws.{band_holds, band_long, band_sound}
@@ -144,7 +144,7 @@ encoding_accepted v counted idents16 sound =
     let end = 8 + length (link_fields v.links) in
     let links : read_links 65 s 8 [] ≡ links_read v.links end
     = links_back v.links 65 s 8 [] (demand_fields v.demands) 0 (omega (arith, limits.links_there, limits.most_links))
-    (omega (arith, limits.links_there, limits.most_links)) (omega (arith, limits.links_there, limits.some_link_lem)) (omega arith) there.behind
+    (omega (arith, limits.links_there, limits.most_links)) (omega (arith, limits.links_there, limits.some_link)) (omega arith) there.behind
     (demands_next v.demands) passes.2 in
     let behind : drop end s ≡ demand_fields v.demands
     = sym (drop-drop (length (link_fields v.links)) 8 s) ∙ ap (drop (length (link_fields v.links))) there.behind ∙

@@ -11,7 +11,7 @@ use Rattle.request.specs.declared.Link.{Link}
 use Rattle.request.specs.declared.Demand.{Demand}
 use Rattle.request.specs.View.{view_demand, no_link, no_entry}
 use Rattle.request.specs.Encoding.{two_bytes, bits16, field, band_field, link_field, tag_of, number_asked, demand_field, link_fields, demand_fields}
-use Rattle.request.specs.EncodingLaws.{demand_bytes, links_bytes, links_follow, demands_follow}
+use Rattle.request.proofs.EncodingLaws.{demand_bytes, links_bytes, links_follow, demands_follow}
 use Rattle.lent.specs.LentLaws.{sets_then}
 use Rattle.writing.specs.inner.Ready.{RoutesFit}
 

@@ -2,8 +2,8 @@
 use mathlib.Core.Path.{◌∙◌}
 use native.Mathlib.Omega.{arith}
 use borrow.Author.Rules.{rules}
-use Rattle.board.specs.StandingLaws.{past_blocks}
-use Rattle.board.specs.BoardLaws.{spot_placed}
+use Rattle.board.proofs.StandingLaws.{past_blocks}
+use Rattle.board.proofs.BoardLaws.{spot_placed}
 use Rattle.board.proofs.lowest_spot.Statement.{statement}
 use Rattle.board.proofs.lowest_spot.Tie as tie
 

@@ -2,8 +2,8 @@
 use mathlib.Core.Path.{ap, ◌∙◌}
 use native.Mathlib.Omega.{arith}
 use borrow.Author.Rules.{rules}
-use Rattle.board.specs.StandingLaws.{past_blocks}
-use Rattle.board.specs.BoardLaws.{one_placed}
+use Rattle.board.proofs.StandingLaws.{past_blocks}
+use Rattle.board.proofs.BoardLaws.{one_placed}
 use Rattle.board.specs.declared.Spot.{Spot}
 use Rattle.board.proofs.place_one.Statement.{statement}
 use Rattle.board.proofs.place_one.Tie as tie

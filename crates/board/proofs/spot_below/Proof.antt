@@ -2,7 +2,7 @@
 use mathlib.Core.Path.{sym}
 use native.Mathlib.Omega.{arith}
 use borrow.Author.Rules.{rules}
-use Rattle.board.specs.BoardLaws.{below_at, below_nowhere}
+use Rattle.board.proofs.BoardLaws.{below_at, below_nowhere}
 use Rattle.board.proofs.spot_below.Statement.{statement}
 use Rattle.board.proofs.spot_below.Tie as tie
 

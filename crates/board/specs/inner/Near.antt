@@ -17,7 +17,7 @@ near_problem past starts span =
 -- there are at most 200 blocks, and none that is in the way ends before it starts
 pub record Blocks (past starts : List ℕ) (n : ℕ) : Type 0 where
   pub few : n ≤ 200
-  pub ends_after_lem : (j : ℕ) → j < n → 0 < get_or past j 0 → get_or starts j 0 ≤ get_or past j 0
+  pub ends_after : (j : ℕ) → j < n → 0 < get_or past j 0 → get_or starts j 0 ≤ get_or past j 0
 
 -- an array that holds where each number that is met, and holds a slot, ends, the guard included; 0 for the others
 pub record PastEnds (meets : List Bool) (starts ends : List ℕ) (guard n : ℕ) (past : List ℕ) : Type 0 where

@@ -29,21 +29,21 @@ returns-2 : tie.Need-returns-2
 returns-2 c =
     let a = c.before.before.before.before.before.args in
     let even = passed_by c.before.before.before.before.even-natural.ensures c.before.before.before.if1.false in
-    let end = refused_by c.before.end_within_lem.ensures c.if2.true in
+    let end = refused_by c.before.end_within.ensures c.if2.true in
     sym (at_end a.slots a.twice a.m (rw (to_z-of_z c.before.before.before.before.before.ranges.twice) at even) (rw (c.before.before.half.ensures, to_z-of_z c.before.before.before.before.before.ranges.twice) at end))
 
 cast-t9 : tie.Need-overflow-cast-t9
 cast-t9 c =
     let a = c.before.before.before.before.before.args in
     let start = c.before.before.half.result in
-    let end = passed_by c.before.end_within_lem.ensures c.if2.false in
+    let end = passed_by c.before.end_within.ensures c.if2.false in
     record { fits = omega (arith, leb-true (start + a.m) a.slots end) }
 
 returns-3 : tie.Need-returns-3
 returns-3 c =
     let a = c.before.before.before.before.before.args in
     let even = passed_by c.before.before.before.before.even-natural.ensures c.before.before.before.if1.false in
-    let end = passed_by c.before.end_within_lem.ensures c.if2.false in
+    let end = passed_by c.before.end_within.ensures c.if2.false in
     rw (c.before.before.half.ensures, to_z-of_z c.before.before.before.before.before.ranges.twice)
     (sym (at_half a.slots a.twice a.m (rw (to_z-of_z c.before.before.before.before.before.ranges.twice) at even) (rw (c.before.before.half.ensures, to_z-of_z c.before.before.before.before.before.ranges.twice) at end)))
 

@@ -36,7 +36,7 @@ returns-3 c =
     let a = c.before.before.before.before.before.before.args in
     let allowed = passed_by c.before.before.before.before.before.allowed.ensures c.before.before.before.before.if1.false in
     let width = passed_by c.before.before.before.width_allowed.ensures c.before.if2.false in
-    let end = refused_by c.before.before.end_within_lem.ensures c.if3.true in
+    let end = refused_by c.before.before.end_within.ensures c.if3.true in
     sym (frequency_end a.band a.start a.width allowed width end)
 
 central-number-requires : tie.Need-central-number-requires
@@ -50,7 +50,7 @@ returns-4 c =
     let a = c.before.before.before.before.before.before.before.before.before.args in
     let allowed = passed_by c.before.before.before.before.before.before.before.before.allowed.ensures c.before.before.before.before.before.before.before.if1.false in
     let width = passed_by c.before.before.before.before.before.before.width_allowed.ensures c.before.before.before.before.if2.false in
-    let end = passed_by c.before.before.before.before.before.end_within_lem.ensures c.before.before.before.if3.false in
+    let end = passed_by c.before.before.before.before.before.end_within.ensures c.before.before.before.if3.false in
     let edge : to_z w16 (of_z w16 a.band.n0) ≡ a.band.n0 = to_z-of_z (search rules) in
     let n : to_z w32 (of_z w32 c.before.central-number.result) ≡ central_number a.band.n0 a.start a.width =
     to_z-of_z (record { sfits = c.before.central-number.type-inv }) ∙ c.before.central-number.ensures ∙

@@ -14,8 +14,8 @@ use Rattle.theory.specs.Groups as theory
 use Rattle.theory.specs.Groups.{members}
 use Rattle.request.specs.declared.Checked.TheVariants.{Sound}
 use Rattle.request.specs.View.{view}
-use Rattle.request.specs.SoundLaws.{check_sound, whole_counted}
-use Rattle.request.specs.LimitsLaws.{checked_limits}
+use Rattle.request.proofs.SoundLaws.{check_sound, whole_counted}
+use Rattle.request.proofs.LimitsLaws.{checked_limits}
 use Rattle.request.specs.Sharing.{problem_of}
 use Rattle.request.specs.Sound.{SoundRequest}
 use Rattle.request.specs.inner.Limits.{Limits}
@@ -26,7 +26,7 @@ use Rattle.meeting.specs.Compact.{compact_of}
 use Rattle.meeting.specs.CompactLaws.{small}
 use Rattle.meeting.specs.inner.Small.{problem_in, Small}
 use Rattle.placing.specs.FirstFit.{first_fit_starts, first_fit_blockers}
-use Rattle.placing.specs.FirstFitLaws.{order_starts, order_blockers}
+use Rattle.placing.proofs.FirstFitLaws.{order_starts, order_blockers}
 use Rattle.groups.specs.declared.Grouping.TheVariants.{Grouped}
 use Rattle.groups.specs.Reply.{check_groups, grouped, order_told}
 use Rattle.groups.specs.ReplyLaws.{groupable_says, groups_passed}

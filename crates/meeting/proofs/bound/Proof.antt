@@ -3,8 +3,8 @@ use mathlib.Core.Path.{sym, ◌∙◌}
 use borrow.Author.Rules.{rules}
 use Rattle.request.proofs.Arrays.{whole}
 use Rattle.request.specs.View.{view}
-use Rattle.request.specs.SoundLaws.{check_sound, whole_counted}
-use Rattle.request.specs.LimitsLaws.{checked_limits}
+use Rattle.request.proofs.SoundLaws.{check_sound, whole_counted}
+use Rattle.request.proofs.LimitsLaws.{checked_limits}
 use Rattle.meeting.specs.Bound.{bound_of}
 use Rattle.meeting.specs.Compact.{compact_of}
 use Rattle.meeting.specs.inner.Small.{Compacted}

@@ -3,9 +3,9 @@ use mathlib.Core.Path.{sym, ◌∙◌}
 use native.Mathlib.Omega.{arith}
 use borrow.Author.Rules.{rules}
 use Rattle.request.specs.View.{view}
-use Rattle.request.specs.LimitsLaws.{checked_limits}
+use Rattle.request.proofs.LimitsLaws.{checked_limits}
 use Rattle.request.proofs.Arrays.{whole}
-use Rattle.placing.specs.FirstFitLaws.{request_refused_lem, order_refused, order_passes}
+use Rattle.placing.proofs.FirstFitLaws.{request_refused_lem, order_refused, order_passes}
 use Rattle.placing.proofs.check_first_fit.Statement.{statement}
 use Rattle.placing.proofs.check_first_fit.Tie as tie
 

@@ -10,9 +10,9 @@ use borrow.Author.Rules.{rules}
 use Rattle.request.specs.declared.Checked.TheVariants as checked
 use Rattle.request.specs.View.{view}
 use Rattle.request.specs.Sound.{SoundRequest}
-use Rattle.request.specs.SoundLaws.{check_sound, whole_counted}
+use Rattle.request.proofs.SoundLaws.{check_sound, whole_counted}
 use Rattle.request.specs.inner.Limits.{Limits}
-use Rattle.request.specs.LimitsLaws.{checked_limits}
+use Rattle.request.proofs.LimitsLaws.{checked_limits}
 use Rattle.request.proofs.Arrays.{whole}
 use Rattle.meeting.specs.declared.Compact.{Compact}
 use Rattle.meeting.specs.Compact.{compact_of}
@@ -20,10 +20,10 @@ use Rattle.meeting.specs.CompactLaws.{small}
 use Rattle.placing.specs.declared.PlacedReply.TheVariants as placed-reply
 use Rattle.placing.specs.FirstFit.{check_first_fit, fitted, fitted_reply}
 use Rattle.placing.specs.inner.Placement.{PlaceAsked}
-use Rattle.placing.specs.PlacementLaws.{clean_slate, small_reply, small_kept}
-use Rattle.placing.specs.OrderLaws.{order_positions}
-use Rattle.placing.specs.FirstFitLaws.{tests_refuse, tests_keep_starts, tests_keep_blockers, fitted_answers, fitted_writes, fitted_names, fitting_tested, end_placed, blocked_keeps_starts, blocked_keeps_blockers, starts_fitted, blockers_fitted}
-use Rattle.placing.specs.PromiseLaws.{request_sound, order_sound, order_once, room_enough}
+use Rattle.placing.proofs.PlacementLaws.{clean_slate, small_reply, small_kept}
+use Rattle.placing.proofs.OrderLaws.{order_positions}
+use Rattle.placing.proofs.FirstFitLaws.{tests_refuse, tests_keep_starts, tests_keep_blockers, fitted_answers, fitted_writes, fitted_names, fitting_tested, end_placed, blocked_keeps_starts, blocked_keeps_blockers, starts_fitted, blockers_fitted}
+use Rattle.placing.proofs.PromiseLaws.{request_sound, order_sound, order_once, room_enough}
 use Rattle.placing.proofs.first_fit.Statement.{statement}
 use Rattle.placing.proofs.first_fit.Tie as tie
 

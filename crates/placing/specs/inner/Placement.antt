@@ -49,7 +49,7 @@ pub record PlacedTo (c : Compact) (order : List ℕ) (k end : ℕ) (at by ends :
   pub rest : fitted_in c order ≡ first_fit (problem_in c) c.slots (fill (problem_in c) [] (take k order)) (drop k order)
   -- the largest end
   pub end_is : end ≡ top (problem_in c) (fill (problem_in c) [] (take k order))
-  pub end_within_lem : end ≤ c.slots
+  pub end_within : end ≤ c.slots
   -- the starts and the blockers by listing position
   pub starts_are : (j : ℕ) → j < 200 → get_or at j 0 ≡ start_in (fill (problem_in c) [] (take k order)) j
   pub starts_full : length at ≡ 200

@@ -30,7 +30,7 @@ pub record RowsSoFar (v : View) (s : List ℕ) (at : ℕ) (has : List Bool) (sta
 -- what the front of the arrays holds of the rows that were read
 pub record Fronts (x : RowsRead) (f : RowsFound) (K : ℕ) : Type 0 where
   pub rows : List Row
-  pub rows_read_lem : x ≡ rows_read rows
+  pub rows_read : x ≡ rows_read rows
   pub given_whole : length f.given ≡ 200
   pub starts_whole : length f.starts ≡ 200
   pub given_front : take K f.given ≡ given_to K rows

@@ -6,7 +6,7 @@ use lib.IntN.{ℤ, pos, ◌-ℤ◌}
 use mir.Syntax.{w16}
 use mir.Val.{to_z, of_z}
 use mir.ValLaws.{to_z-of_z}
-use Rattle.request.specs.SignedLaws.{lowered_fits, lowered_16, lowered_exact}
+use Rattle.request.proofs.SignedLaws.{lowered_fits, lowered_16, lowered_exact}
 use Rattle.reading.proofs.below_zero.Statement.{statement}
 use Rattle.reading.proofs.below_zero.Tie as tie
 

@@ -4,7 +4,7 @@ use mathlib.Core.Path.{◌≡◌, refl, ap, ◌∙◌}
 use native.Mathlib.Omega.{arith}
 use lib.ListN.{take, drop}
 use Rattle.request.specs.Packing.{padded}
-use Rattle.request.specs.PackingLaws.{route_step}
+use Rattle.request.proofs.PackingLaws.{route_step}
 use Rattle.reading.proofs.route_in.Statement.{statement}
 use Rattle.reading.proofs.route_in.Tie as tie
 

@@ -4,7 +4,7 @@ use native.Mathlib.Omega.{arith}
 use borrow.Author.Rules.{rules}
 use mir.Syntax.{w16}
 use mir.ValLaws.{to_z_pos, to_z-of_z}
-use Rattle.request.specs.SignedLaws.{signed_low, signed_high}
+use Rattle.request.proofs.SignedLaws.{signed_low, signed_high}
 use Rattle.reading.proofs.signed.Statement.{statement}
 use Rattle.reading.proofs.signed.Tie as tie
 

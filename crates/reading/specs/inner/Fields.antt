@@ -38,5 +38,5 @@ pub record LinkThere (s : List ℕ) (at : ℕ) (l : Link) (rest : List ℕ) : Ty
 pub record DemandThere (s : List ℕ) (at : ℕ) (d : DemandView) (rest : List ℕ) : Type 0 where
   pub sound_field : FieldHolds s at (demand_tag s at) 5 36
   pub same : demand_in s at ≡ d
-  pub end_within_lem : at + 7 + d.hops ≤ length s
+  pub end_within : at + 7 + d.hops ≤ length s
   pub behind : drop (at + 7 + d.hops) s ≡ rest

@@ -9,7 +9,7 @@ pub record Limits (v : View) : Type 0 where
   pub some_slot : 1 ≤ v.band.slots
   pub most_slots : v.band.slots ≤ 384
   pub most_guard : v.band.guard ≤ 8
-  pub some_link_lem : 1 ≤ v.link_count
+  pub some_link : 1 ≤ v.link_count
   pub most_links : v.link_count ≤ 64
   pub links_there : length v.links ≡ v.link_count
   pub most_demands : v.demand_count ≤ 200

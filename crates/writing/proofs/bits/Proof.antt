@@ -8,7 +8,7 @@ use mir.Syntax.{w16}
 use mir.Val.{to_z, of_z}
 use mir.ValLaws.{to_z-of_z}
 use Rattle.request.specs.Encoding.{bits16}
-use Rattle.request.specs.SignedLaws.{kept, bits_fit}
+use Rattle.request.proofs.SignedLaws.{kept, bits_fit}
 use Rattle.writing.proofs.bits.Statement.{statement}
 use Rattle.writing.proofs.bits.Tie as tie
 

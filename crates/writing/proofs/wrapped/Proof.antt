@@ -2,7 +2,7 @@
 use Prim.{tt}
 use mathlib.Core.Path.{ap}
 use lib.IntN.{nat_abs}
-use Rattle.request.specs.SignedLaws.{raised_fits, raised_exact, bits_fit, in_32}
+use Rattle.request.proofs.SignedLaws.{raised_fits, raised_exact, bits_fit, in_32}
 use Rattle.writing.proofs.wrapped.Statement.{statement}
 use Rattle.writing.proofs.wrapped.Tie as tie
 

@@ -7,7 +7,7 @@ use borrow.Author.Rules.{rules}
 use borrow.Author.Tests.{ltb-true, ltb-false}
 use Rattle.board.specs.Board.{blocker_told}
 use Rattle.board.specs.inner.Near.{ClearTo}
-use Rattle.board.specs.ScanLaws.{block_clashes, block_over, block_later, first_blocks, none_blocks, clear_none, clear_more}
+use Rattle.board.proofs.ScanLaws.{block_clashes, block_over, block_later, first_blocks, none_blocks, clear_none, clear_more}
 use Rattle.board.proofs.blocking.blocker_at.Statement.{statement}
 use Rattle.board.proofs.blocking.blocker_at.Tie as tie
 

@@ -3,7 +3,7 @@ use mathlib.Core.Path.{ap}
 use borrow.Author.Rules.{rules}
 use Rattle.board.specs.Board.{number_rows, blocker_told}
 use Rattle.board.specs.inner.Near.{near_problem}
-use Rattle.board.specs.ScanLaws.{below_zero, below_higher}
+use Rattle.board.proofs.ScanLaws.{below_zero, below_higher}
 use Rattle.board.proofs.blocking.blocker_below.Statement.{statement}
 use Rattle.board.proofs.blocking.blocker_below.Tie as tie
 

@@ -7,7 +7,7 @@ use Rattle.theory.specs.Problem.{lowest}
 use Rattle.theory.specs.inner.Scan.{next_start, rows_ahead}
 use Rattle.board.specs.Board.{number_rows}
 use Rattle.board.specs.inner.Near.{near_problem}
-use Rattle.board.specs.ScanLaws.{next_start_lem, next_block, next_whole, scan_above, scan_at, scan_below, scan_fewer}
+use Rattle.board.proofs.ScanLaws.{next_start_lem, next_block, next_whole, scan_above, scan_at, scan_below, scan_fewer}
 use Rattle.board.proofs.scan.lowest_below.Statement.{statement}
 use Rattle.board.proofs.scan.lowest_below.Tie as tie
 

@@ -5,7 +5,7 @@ use native.Mathlib.Omega.{arith}
 use borrow.Author.Rules.{rules}
 use lib.ListN.{length, length-set, replicate}
 use Rattle.board.specs.inner.Near.{PastEnds}
-use Rattle.board.specs.StandingLaws.{past_none, past_more}
+use Rattle.board.proofs.StandingLaws.{past_none, past_more}
 use Rattle.board.proofs.standing.past_ends.Statement.{statement}
 use Rattle.board.proofs.standing.past_ends.Tie as tie
 

@@ -8,12 +8,12 @@ use Rattle.request.specs.declared.Checked.TheVariants.{Sound, Refused}
 use Rattle.request.specs.View.{view}
 use Rattle.request.specs.Check.{check}
 use Rattle.request.specs.inner.Limits.{Limits}
-use Rattle.request.specs.LimitsLaws.{checked_limits}
+use Rattle.request.proofs.LimitsLaws.{checked_limits}
 use Rattle.request.proofs.Arrays.{whole}
 use Rattle.lent.specs.Lent.{check_rooms}
 use Rattle.lent.specs.LentLaws.{rooms_held}
 use Rattle.columns.specs.Columns.{DemandBuffers, demand_rooms, demands_over, check_demand_columns}
-use Rattle.columns.specs.ColumnsLaws.{demands_unsound, demands_fit, demands_refused_lem, demands_written}
+use Rattle.columns.proofs.ColumnsLaws.{demands_unsound, demands_fit, demands_refused_lem, demands_written}
 use Rattle.columns.proofs.demands.demand_columns.Statement.{statement}
 use Rattle.columns.proofs.demands.demand_columns.Tie as tie
 

@@ -6,10 +6,10 @@ use native.Mathlib.Omega.{arith}
 use lib.ListN.{length, take, set, get_or, length-set}
 use borrow.Author.Rules.{rules}
 use Rattle.request.specs.View.{DemandView, view, view_demand, idents}
-use Rattle.request.specs.ViewLaws.{demands_shown, demand_shown, mapped_length}
+use Rattle.request.proofs.ViewLaws.{demands_shown, demand_shown, mapped_length}
 use Rattle.lent.specs.Lent.{over}
 use Rattle.lent.specs.LentLaws.{over_none}
-use Rattle.columns.specs.ColumnsLaws.{column_more, column_all}
+use Rattle.columns.proofs.ColumnsLaws.{column_more, column_all}
 use Rattle.columns.proofs.demands.write_idents.Statement.{statement}
 use Rattle.columns.proofs.demands.write_idents.Tie as tie
 

@@ -6,11 +6,11 @@ use native.Mathlib.Omega.{arith}
 use lib.ListN.{length, take, set, length-set}
 use borrow.Author.Rules.{rules}
 use Rattle.request.specs.View.{DemandView, view, view_demand}
-use Rattle.request.specs.ViewLaws.{demands_shown, demand_shown, mapped_length}
+use Rattle.request.proofs.ViewLaws.{demands_shown, demand_shown, mapped_length}
 use Rattle.lent.specs.Lent.{over}
 use Rattle.lent.specs.LentLaws.{over_none}
 use Rattle.columns.specs.Columns.{rate_asked, rates}
-use Rattle.columns.specs.ColumnsLaws.{column_more, column_all}
+use Rattle.columns.proofs.ColumnsLaws.{column_more, column_all}
 use Rattle.columns.proofs.demands.write_rates.Statement.{statement}
 use Rattle.columns.proofs.demands.write_rates.Tie as tie
 

@@ -6,7 +6,7 @@ use native.Mathlib.Omega.{arith}
 use lib.ListN.{length, take}
 use Rattle.request.specs.View.{view_demand}
 use Rattle.columns.specs.Columns.{route_links}
-use Rattle.columns.specs.ColumnsLaws.{hops_more}
+use Rattle.columns.proofs.ColumnsLaws.{hops_more}
 use Rattle.columns.proofs.routes.count_hops.Statement.{statement}
 use Rattle.columns.proofs.routes.count_hops.Tie as tie
 

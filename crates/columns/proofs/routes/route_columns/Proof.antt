@@ -9,14 +9,14 @@ use Rattle.request.specs.declared.Written.TheVariants.{Wrote}
 use Rattle.request.specs.View.{DemandView, view}
 use Rattle.request.specs.Check.{check}
 use Rattle.request.specs.inner.Limits.{Limits}
-use Rattle.request.specs.LimitsLaws.{checked_limits}
+use Rattle.request.proofs.LimitsLaws.{checked_limits}
 use Rattle.writing.specs.inner.Ready.{Ready}
 use Rattle.writing.specs.OutLaws.{ready}
 use Rattle.request.proofs.Arrays.{whole}
 use Rattle.lent.specs.Lent.{check_room}
 use Rattle.lent.specs.LentLaws.{room_held}
 use Rattle.columns.specs.Columns.{link_ends, hop_counts, route_links}
-use Rattle.columns.specs.ColumnsLaws.{stored_over, ends_length, routes_unsound, no_ends, no_hops, routes_fit, routes_refused_lem, routes_written}
+use Rattle.columns.proofs.ColumnsLaws.{stored_over, ends_length, routes_unsound, no_ends, no_hops, routes_fit, routes_refused_lem, routes_written}
 use Rattle.columns.proofs.routes.route_columns.Statement.{statement}
 use Rattle.columns.proofs.routes.route_columns.Tie as tie
 

@@ -7,7 +7,7 @@ use lib.ListN.{length, take, length-set}
 use lib.Seq.{sets}
 use Rattle.request.specs.View.{no_link}
 use Rattle.columns.specs.Columns.{link_ends}
-use Rattle.columns.specs.ColumnsLaws.{ends_stored}
+use Rattle.columns.proofs.ColumnsLaws.{ends_stored}
 use Rattle.columns.proofs.routes.write_ends.Statement.{statement}
 use Rattle.columns.proofs.routes.write_ends.Tie as tie
 

@@ -7,7 +7,7 @@ use lib.ListN.{length, take, length-set}
 use lib.Seq.{sets}
 use Rattle.request.specs.View.{view_demand}
 use Rattle.columns.specs.Columns.{hop_counts}
-use Rattle.columns.specs.ColumnsLaws.{hops_stored}
+use Rattle.columns.proofs.ColumnsLaws.{hops_stored}
 use Rattle.columns.proofs.routes.write_hops.Statement.{statement}
 use Rattle.columns.proofs.routes.write_hops.Tie as tie
 

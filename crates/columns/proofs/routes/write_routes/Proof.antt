@@ -7,7 +7,7 @@ use lib.ListN.{length, get_or, take}
 use lib.Seq.{sets, length-take-le}
 use Rattle.request.specs.View.{view_demand, no_entry}
 use Rattle.columns.specs.Columns.{route_links}
-use Rattle.columns.specs.ColumnsLaws.{hops_more, hops_within, routes_stored}
+use Rattle.columns.proofs.ColumnsLaws.{hops_more, hops_within, routes_stored}
 use Rattle.columns.proofs.routes.write_routes.Statement.{statement}
 use Rattle.columns.proofs.routes.write_routes.Tie as tie
 

@@ -1,7 +1,7 @@
 -- `host::certifying::certified_told` meets its contract, case by case. Assumes nothing.
 use mathlib.Core.Path.{sym, ap, ◌∙◌}
 use Rattle.host.specs.Certified.{certify_told}
-use Rattle.host.specs.CertifiedLaws.{of_certificate, of_its_plan}
+use Rattle.host.proofs.CertifiedLaws.{of_certificate, of_its_plan}
 use borrow.Author.Rules.{rules}
 use Rattle.host.proofs.certifying.certified_told.Statement.{statement}
 use Rattle.host.proofs.certifying.certified_told.Tie as tie

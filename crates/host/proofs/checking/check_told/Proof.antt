@@ -3,7 +3,7 @@ use mathlib.Core.Path.{◌≡◌, refl, sym, ap₂, ◌∙◌}
 use Rattle.meeting.specs.declared.BoundReply.{BoundReply}
 use Rattle.plan.specs.declared.CheckReply.{CheckReply}
 use Rattle.host.specs.Host.{check_told}
-use Rattle.host.specs.HostLaws.{of_buffer, of_plan}
+use Rattle.host.proofs.HostLaws.{of_buffer, of_plan}
 use borrow.Author.Rules.{rules}
 use Rattle.host.proofs.checking.check_told.Statement.{statement}
 use Rattle.host.proofs.checking.check_told.Tie as tie

@@ -5,7 +5,7 @@ use mir.Facts.{to_z-of_z}
 use Rattle.grid.specs.declared.Band.{Band}
 use Rattle.grid.specs.Grid.{band_reply, frequency_reply}
 use Rattle.host.specs.Host.{frequency_told, frequency_entry}
-use Rattle.host.specs.HostLaws.{band_made, band_unmade}
+use Rattle.host.proofs.HostLaws.{band_made, band_unmade}
 use borrow.Author.Rules.{rules}
 use Rattle.host.proofs.frequency.lightplan_frequency.Statement.{statement}
 use Rattle.host.proofs.frequency.lightplan_frequency.Tie as tie

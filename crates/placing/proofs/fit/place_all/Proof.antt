@@ -9,7 +9,7 @@ use Rattle.theory.specs.Problem.{fill}
 use Rattle.board.specs.Board.{placed_beside}
 use Rattle.meeting.specs.inner.Small.{problem_in}
 use Rattle.placing.specs.inner.Placement.{PlacedTo}
-use Rattle.placing.specs.PlacementLaws.{placed_none, beside_rows, refused_reply, refused_kept, found_inside, placed_more, placed_answer, placed_kept}
+use Rattle.placing.proofs.PlacementLaws.{placed_none, beside_rows, refused_reply, refused_kept, found_inside, placed_more, placed_answer, placed_kept}
 use Rattle.placing.proofs.fit.place_all.Statement.{statement}
 use Rattle.placing.proofs.fit.place_all.Tie as tie
 

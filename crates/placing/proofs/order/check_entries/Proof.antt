@@ -8,7 +8,7 @@ use lib.ListN.{get_or, take, drop}
 use Rattle.placing.specs.FirstFit.{check_entries}
 use Rattle.meeting.specs.inner.Meeting.{MarksOf, marked_in}
 use Rattle.meeting.specs.MeetingLaws.{marks_none, marks_more}
-use Rattle.placing.specs.OrderLaws.{entry_above, entry_seen, entry_passes, entries_end}
+use Rattle.placing.proofs.OrderLaws.{entry_above, entry_seen, entry_passes, entries_end}
 use Rattle.placing.proofs.order.check_entries.Statement.{statement}
 use Rattle.placing.proofs.order.check_entries.Tie as tie
 use Rattle.placing.proofs.order.check_entries.Reads as reads

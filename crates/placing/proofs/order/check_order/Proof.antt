@@ -1,6 +1,6 @@
 -- `placing::order::check_order` meets its contract. Assumes nothing.
 use mathlib.Core.Path.{sym, ◌∙◌}
-use Rattle.placing.specs.OrderLaws.{order_entries, order_length}
+use Rattle.placing.proofs.OrderLaws.{order_entries, order_length}
 use borrow.Author.Rules.{rules}
 use Rattle.placing.proofs.order.check_order.Statement.{statement}
 use Rattle.placing.proofs.order.check_order.Tie as tie

@@ -49,7 +49,7 @@ returns c =
     let starts = c.before.before.before.before.before.before.before.args.starts.now in
     let at = c.before.before.before.before.before.loop in
     sym (at.invariant.1 ∙ end_refused (problem_in compact) compact.slots starts compact.count at.k c.before.before.before.before.loop-test.true
-    (leb-false _ _ (refused_by c.before.end_within_lem.ensures c.if1.true)))
+    (leb-false _ _ (refused_by c.before.end_within.ensures c.if1.true)))
 
 add-k : tie.Need-overflow-add-k invariant-loop decreases-loop
 add-k c = search rules
@@ -65,7 +65,7 @@ loop-again c =
     let at = c.before.before.before.before.before.loop in (
       omega arith,
       at.invariant.1 ∙ end_passes (problem_in compact) compact.slots starts compact.count at.k c.before.before.before.before.loop-test.true
-          (leb-true _ _ (passed_by c.before.end_within_lem.ensures c.if1.false)),
+          (leb-true _ _ (passed_by c.before.end_within.ensures c.if1.false)),
     )
 
 returns-2 : tie.Need-returns-2 invariant-loop decreases-loop

@@ -1,7 +1,7 @@
 -- `plan::check::check_places` meets its contract. Assumes nothing.
 use mathlib.Core.Path.{sym, ◌∙◌}
 use borrow.Author.Rules.{rules}
-use Rattle.request.specs.CheckLaws.{then_sound, then_refused}
+use Rattle.request.proofs.CheckLaws.{then_sound, then_refused}
 use Rattle.meeting.specs.inner.Small.{problem_in}
 use Rattle.plan.specs.inner.Rows.{ends_from, clashes_from, places_from}
 use Rattle.plan.proofs.check.check_places.Statement.{statement}

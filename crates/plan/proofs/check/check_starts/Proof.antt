@@ -5,9 +5,9 @@ use Rattle.request.specs.declared.Checked.TheVariants.{Sound}
 use Rattle.request.specs.View.{view}
 use Rattle.request.specs.Check.{check}
 use Rattle.request.specs.Sound.{SoundRequest}
-use Rattle.request.specs.SoundLaws.{check_sound, whole_counted}
+use Rattle.request.proofs.SoundLaws.{check_sound, whole_counted}
 use Rattle.request.specs.inner.Limits.{Limits}
-use Rattle.request.specs.LimitsLaws.{checked_limits}
+use Rattle.request.proofs.LimitsLaws.{checked_limits}
 use Rattle.request.proofs.Arrays.{whole}
 use Rattle.meeting.specs.Plan.{end_of_plan}
 use Rattle.plan.specs.CheckStarts.{check_starts, check_places, reply_with, starts_reply}

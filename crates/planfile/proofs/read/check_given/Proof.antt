@@ -6,7 +6,7 @@ use lib.ListN.{length, drop}
 use borrow.Author.Rules.{rules}
 use borrow.Author.Tests.{not-true, not-false}
 use Rattle.planfile.specs.PlanReading.{check_given}
-use Rattle.planfile.specs.PlanReadingLaws.{given_passes, given_refused, given_done}
+use Rattle.planfile.proofs.PlanReadingLaws.{given_passes, given_refused, given_done}
 use Rattle.planfile.proofs.read.check_given.Statement.{statement}
 use Rattle.planfile.proofs.read.check_given.Tie as tie
 

@@ -2,7 +2,7 @@
 use mathlib.Core.Path.{sym, ◌∙◌}
 use borrow.Author.Rules.{rules}
 use Rattle.request.specs.View.{view}
-use Rattle.planfile.specs.PlanRowsLaws.{rows_missing, rows_unsound, rows_no_room, rows_answered}
+use Rattle.planfile.proofs.PlanRowsLaws.{rows_missing, rows_unsound, rows_no_room, rows_answered}
 use Rattle.planfile.proofs.read.check_rows.Statement.{statement}
 use Rattle.planfile.proofs.read.check_rows.Tie as tie
 

@@ -7,9 +7,9 @@ use lib.ListN.{length, take, set, get_or, length-set}
 use lib.Seq.{take_all}
 use borrow.Author.Rules.{rules}
 use Rattle.request.specs.View.{DemandView, view, view_demand, idents}
-use Rattle.request.specs.ViewLaws.{demands_shown, demand_shown, mapped_length, idents_length}
+use Rattle.request.proofs.ViewLaws.{demands_shown, demand_shown, mapped_length, idents_length}
 use Rattle.request.specs.Packing.{padded}
-use Rattle.planfile.specs.PlanPackingLaws.{idents_turn}
+use Rattle.planfile.proofs.PlanPackingLaws.{idents_turn}
 use Rattle.planfile.proofs.read.idents_of.Statement.{statement}
 use Rattle.planfile.proofs.read.idents_of.Tie as tie
 

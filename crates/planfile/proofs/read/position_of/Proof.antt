@@ -5,7 +5,7 @@ use native.Mathlib.Omega.{arith}
 use lib.ListN.{length, drop}
 use borrow.Author.Rules.{rules}
 use Rattle.planfile.specs.PlanReading.{position_of}
-use Rattle.planfile.specs.PlanReadingLaws.{position_here, position_on, position_end}
+use Rattle.planfile.proofs.PlanReadingLaws.{position_here, position_on, position_end}
 use Rattle.planfile.proofs.read.position_of.Statement.{statement}
 use Rattle.planfile.proofs.read.position_of.Tie as tie
 

@@ -12,13 +12,13 @@ use Rattle.request.specs.declared.Checked.TheVariants.{Sound}
 use Rattle.request.specs.View.{view}
 use Rattle.request.specs.Check.{check}
 use Rattle.request.specs.inner.Limits.{Limits}
-use Rattle.request.specs.LimitsLaws.{checked_limits}
+use Rattle.request.proofs.LimitsLaws.{checked_limits}
 use Rattle.request.proofs.Arrays.{whole}
 use Rattle.lent.specs.Lent.{over}
 use Rattle.planfile.specs.PlanReading.{read_rows, read_plan_file, plan_reply}
-use Rattle.planfile.specs.PlanReadingLaws.{plan_request_refused, plan_too_long, plan_row_refused}
+use Rattle.planfile.proofs.PlanReadingLaws.{plan_request_refused, plan_too_long, plan_row_refused}
 use Rattle.planfile.specs.inner.PlanPacking.{Fronts, rows_reply}
-use Rattle.planfile.specs.PlanRowsLaws.{packed_refused, packed_read, refused_result, read_refused_keeps, rows_reply_lem, rows_kept}
+use Rattle.planfile.proofs.PlanRowsLaws.{packed_refused, packed_read, refused_result, read_refused_keeps, rows_reply_lem, rows_kept}
 use Rattle.planfile.proofs.read.read_plan.Statement.{statement}
 use Rattle.planfile.proofs.read.read_plan.Tie as tie
 
@@ -57,7 +57,7 @@ answered c =
     let out = start.args.starts.now in
     let front = fronts c.before.before.before.before.before in
     c.check-rows.ensures ∙ (ap₂ (λ (g : List Bool) (t : List ℕ). rows_reply v g t (length out)) front.given_front front.starts_front
-    ∙ rows_reply_lem v s out front.rows (sound-is c.before.before.before.before.before.before.before.before.before) (limits c.before.before.before.before.before.before.before.before.before).demands_there c.before.before.before.before.before.before.before.before.if1.false front.rows_read_lem)
+    ∙ rows_reply_lem v s out front.rows (sound-is c.before.before.before.before.before.before.before.before.before) (limits c.before.before.before.before.before.before.before.before.before).demands_there c.before.before.before.before.before.before.before.before.if1.false front.rows_read)
 
 check-request-requires : tie.Need-check-request-requires
 check-request-requires c κs = search rules
@@ -159,7 +159,7 @@ returns-5 c =
     let told = sym c.before.before.before.before.before.enum-told3.given.1 ∙ answered c.before.before.before.before.before.before.before in (
       answered c.before.before.before.before.before.before.before,
       c.before.before.write-front.ensures ∙ (ap (λ (t : List ℕ). over (take (length out) t) out) front.starts_front
-          ∙ rows_kept v s out front.rows (sound-is c.before.before.before.before.before.before.before.before.before.before.before.before.before.before.before.before) (limits c.before.before.before.before.before.before.before.before.before.before.before.before.before.before.before.before).demands_there c.before.before.before.before.before.before.before.before.before.before.before.before.before.before.before.if1.false front.rows_read_lem c.before.before.before.before.before.enum-told3.given.0.0 (sym told)),
+          ∙ rows_kept v s out front.rows (sound-is c.before.before.before.before.before.before.before.before.before.before.before.before.before.before.before.before) (limits c.before.before.before.before.before.before.before.before.before.before.before.before.before.before.before.before).demands_there c.before.before.before.before.before.before.before.before.before.before.before.before.before.before.before.if1.false front.rows_read c.before.before.before.before.before.enum-told3.given.0.0 (sym told)),
     )
 
 pub read-plan-spec : {M : Type 1} → statement M

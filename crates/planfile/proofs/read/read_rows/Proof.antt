@@ -12,14 +12,14 @@ use Rattle.refusal.specs.declared.Refusal.TheVariants.{UnknownIdent, IdentSeen, 
 use Rattle.grid.specs.ReplyLaws.{passed_by, refused_by}
 use Rattle.request.specs.declared.Checked.TheVariants.{Sound}
 use Rattle.request.specs.View.{DemandView, view, view_demand, demand_at, width_of}
-use Rattle.request.specs.ViewLaws.{demands_shown, demand_shown}
+use Rattle.request.proofs.ViewLaws.{demands_shown, demand_shown}
 use Rattle.fields.specs.Field.{check_field}
 use Rattle.request.proofs.Arrays.{whole}
 use Rattle.fields.specs.FieldLaws.{field_holds}
 use Rattle.planfile.specs.PlanReading.{position_of, given as given-in, row_in}
-use Rattle.planfile.specs.PlanReadingLaws.{field_refuses, row_decides, row_unknown, row_seen, row_above, row_sound}
+use Rattle.planfile.proofs.PlanReadingLaws.{field_refuses, row_decides, row_unknown, row_seen, row_above, row_sound}
 use Rattle.planfile.specs.inner.PlanPacking.{pack_rows, RowsSoFar}
-use Rattle.planfile.specs.PlanPackingLaws.{given_at, row_who, row_end, so_far_begin, so_far_end, so_far_refused, so_far_more}
+use Rattle.planfile.proofs.PlanPackingLaws.{given_at, row_who, row_end, so_far_begin, so_far_end, so_far_refused, so_far_more}
 use Rattle.planfile.proofs.read.read_rows.Statement.{statement}
 use Rattle.planfile.proofs.read.read_rows.Tie as tie
 
@@ -186,7 +186,7 @@ returns-4 c =
     let new = subst (λ (k : ℕ). given-in rows k ≡ false) (sym is-who) (given_at rows given who false so_far.given_held (omega arith) c.before.before.before.before.before.before.if2.false) in
     let start = c.before.before.before.before.before.number-in2.result in
     let width = ap (λ (d : DemandView). width_of d) (ap (demand_at v.demands) is-who ∙ demand_shown request who (omega arith)) in
-    let end : request.band.slots < start + c.before.before.before.width_of_lem.result = leb-false _ _ (refused_by c.before.before.end_within_lem.ensures c.before.if3.true) in
+    let end : request.band.slots < start + c.before.before.before.width_of_lem.result = leb-false _ _ (refused_by c.before.before.end_within.ensures c.before.if3.true) in
     c.no-rows4.ensures ∙ ap pack_rows (sym (so_far_refused v s at given starts c.before.before.before.before.before.before.before.before.before.before.before.before.before.before.before.before.before.before.requires.1 so_far (EndAbove at) more
     (row_decides v s at rows field ∙ row_above v at rows (row_in v s at) here new (omega (arith, width, c.before.before.before.width_of_lem.ensures, end, c.before.before.before.before.before.number-in2.ensures)))))
 
@@ -234,7 +234,7 @@ loop-again c =
     let new = subst (λ (k : ℕ). given-in rows k ≡ false) (sym is-who) (given_at rows given who false so_far.given_held (omega arith) c.before.before.before.before.before.if2.false) in
     let start = c.before.before.before.before.number-in2.result in
     let width = ap (λ (d : DemandView). width_of d) (ap (demand_at v.demands) is-who ∙ demand_shown request who (omega arith)) in
-    let end : start + c.before.before.width_of_lem.result ≤ request.band.slots = leb-true _ _ (passed_by c.before.end_within_lem.ensures c.if3.false) in
+    let end : start + c.before.before.width_of_lem.result ≤ request.band.slots = leb-true _ _ (passed_by c.before.end_within.ensures c.if3.false) in
     let ends = row_end s at (field_holds s at 4 4 4 field) in
     let sound = row_decides v s at rows field ∙ row_sound v at rows (row_in v s at) here new (omega (arith, width, c.before.before.width_of_lem.ensures, end, c.before.before.before.before.number-in2.ensures)) in
     let next = so_far_more v s at given starts c.before.before.before.before.before.before.before.before.before.before.before.before.before.before.before.before.before.requires.1 so_far more sound ends.0 ends.1 (omega arith) in (

@@ -8,7 +8,7 @@ use Rattle.request.specs.declared.Checked.TheVariants.{Sound}
 use Rattle.request.specs.declared.Written.TheVariants.{Wrote}
 use Rattle.request.specs.View.{view}
 use Rattle.request.specs.inner.Limits.{Limits}
-use Rattle.request.specs.LimitsLaws.{checked_limits}
+use Rattle.request.proofs.LimitsLaws.{checked_limits}
 use Rattle.request.proofs.Arrays.{whole}
 use Rattle.lent.specs.Lent.{check_room}
 use Rattle.lent.specs.LentLaws.{stored_front, room_held}
@@ -16,7 +16,7 @@ use Rattle.plan.specs.AcceptableLaws.{starts_passed, starts_refused}
 use Rattle.plan.specs.CheckStarts.{check_starts}
 use Rattle.plan.specs.CheckStartsLaws.{each_passed}
 use Rattle.planfile.specs.PlanFile.{encode_plan}
-use Rattle.planfile.specs.PlanFileLaws.{rows_length, plan_unwritten, plan_short, plan_wrote, out_unwritten, out_wrote}
+use Rattle.planfile.proofs.PlanFileLaws.{rows_length, plan_unwritten, plan_short, plan_wrote, out_unwritten, out_wrote}
 use Rattle.planfile.proofs.write.write_plan.Statement.{statement}
 use Rattle.planfile.proofs.write.write_plan.Tie as tie
 

@@ -2,7 +2,7 @@
 use native.Mathlib.Omega.{arith}
 use lib.ListN.{length-set}
 use borrow.Author.Rules.{rules}
-use Rattle.planfile.specs.PlanFileLaws.{row_stored}
+use Rattle.planfile.proofs.PlanFileLaws.{row_stored}
 use Rattle.planfile.proofs.write.write_row.Statement.{statement}
 use Rattle.planfile.proofs.write.write_row.Tie as tie
 

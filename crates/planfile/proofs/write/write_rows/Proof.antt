@@ -7,10 +7,10 @@ use lib.ListN.{length, drop}
 use lib.Seq.{sets, length-sets}
 use borrow.Author.Rules.{rules}
 use Rattle.request.specs.View.{view, view_demand, demand_at}
-use Rattle.request.specs.ViewLaws.{demands_shown, demand_shown, mapped_length}
+use Rattle.request.proofs.ViewLaws.{demands_shown, demand_shown, mapped_length}
 use Rattle.meeting.specs.Plan.{start_at}
 use Rattle.planfile.specs.PlanFile.{row_field, row_fields, encode_plan}
-use Rattle.planfile.specs.PlanFileLaws.{store_turn, rows_done}
+use Rattle.planfile.proofs.PlanFileLaws.{store_turn, rows_done}
 use Rattle.planfile.proofs.write.write_rows.Statement.{statement}
 use Rattle.planfile.proofs.write.write_rows.Tie as tie
 

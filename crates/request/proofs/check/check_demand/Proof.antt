@@ -5,7 +5,7 @@ use lib.ListN.{take}
 use Rattle.request.specs.declared.DemandTests.{DemandTests}
 use Rattle.request.specs.View.{view_demand}
 use Rattle.request.specs.DemandTest.{demand_tests}
-use Rattle.request.specs.CheckLaws.{ident_refused, rate_refused, width_refused, hops_refused, route_refused, demand_passes}
+use Rattle.request.proofs.CheckLaws.{ident_refused, rate_refused, width_refused, hops_refused, route_refused, demand_passes}
 use borrow.Author.Rules.{rules}
 use Rattle.request.proofs.check.check_demand.Statement.{statement}
 use Rattle.request.proofs.check.check_demand.Tie as tie

@@ -1,5 +1,5 @@
 -- `request::check::check_ground` meets its contract. Assumes nothing.
-use Rattle.request.specs.StepsLaws.{ground_links, ground_band}
+use Rattle.request.proofs.StepsLaws.{ground_links, ground_band}
 -- `request::check::check_ground` meets its contract. Assumes nothing.
 use mathlib.Core.Path.{sym, ◌∙◌}
 use lib.ListN.{take}

@@ -1,5 +1,5 @@
 -- `request::check::check_links` meets its contract. Assumes nothing.
-use Rattle.request.specs.StepsLaws.{no_link_refused, links_too_many, links_refused_lem, links_pass}
+use Rattle.request.proofs.StepsLaws.{no_link_refused, links_too_many, links_refused_lem, links_pass}
 -- `request::check::check_links` meets its contract. Assumes nothing.
 use Prim.Native.Nat.{ℕ, ◌≤◌, ◌-◌, min}
 use mathlib.Core.Path.{◌≡◌, refl, sym, ◌∙◌}
@@ -9,7 +9,7 @@ use lib.ListN.{length, get_or, take, drop, length-take}
 use lib.Seq.{get_or-take}
 use Rattle.request.specs.View.{link_at, no_link}
 use Rattle.request.specs.Check.{check_links}
-use Rattle.request.specs.CheckLaws.{link_passes, link_refused, links_end_lem}
+use Rattle.request.proofs.CheckLaws.{link_passes, link_refused, links_end_lem}
 use Rattle.request.proofs.check.check_links.Statement.{statement}
 use Rattle.request.proofs.check.check_links.Tie as tie
 

@@ -7,7 +7,7 @@ use borrow.Author.Rules.{rules}
 use lib.Seq.{length-take-le}
 use Rattle.request.specs.View.{view}
 use Rattle.request.specs.inner.Met.{Met}
-use Rattle.request.specs.StepsLaws.{ground_refused, ground_passes, met_too_many, met_refused, met_on, met_all}
+use Rattle.request.proofs.StepsLaws.{ground_refused, ground_passes, met_too_many, met_refused, met_on, met_all}
 use Rattle.request.proofs.Arrays.{whole}
 use Rattle.request.proofs.check.check_request.Statement.{statement}
 use Rattle.request.proofs.check.check_request.Tie as tie

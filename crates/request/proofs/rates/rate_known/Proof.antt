@@ -2,7 +2,7 @@
 use mathlib.Core.Path.{sym, ap, ◌∙◌}
 use lib.Dec.{ltb}
 use Rattle.request.specs.Check.{known_asked}
-use Rattle.request.specs.RateLaws.{known_width}
+use Rattle.request.proofs.RateLaws.{known_width}
 use borrow.Author.Rules.{rules}
 use Rattle.request.proofs.rates.rate_known.Statement.{statement}
 use Rattle.request.proofs.rates.rate_known.Tie as tie

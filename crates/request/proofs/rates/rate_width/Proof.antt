@@ -5,7 +5,7 @@ use native.Mathlib.Omega.{arith}
 use borrow.Author.Rules.{rules}
 use lib.ListN.{drop}
 use Rattle.request.specs.View.{rate_table, looked_up, rate_width}
-use Rattle.request.specs.RateLaws.{found_here, found_later, found_none}
+use Rattle.request.proofs.RateLaws.{found_here, found_later, found_none}
 use Rattle.request.proofs.rates.rate_width.Statement.{statement}
 use Rattle.request.proofs.rates.rate_width.Tie as tie
 

@@ -8,7 +8,7 @@ use lib.ListN.{length, get_or, take, length-take, length-set}
 use lib.Seq.{length-take-le, get_or-take}
 use Rattle.request.specs.View.{link_at, no_link}
 use Rattle.request.specs.inner.Route.{RouteCome}
-use Rattle.request.specs.RouteLaws.{come_none, come_on, come_sound, unlisted_unsound, broken_unsound, met_unsound}
+use Rattle.request.proofs.RouteLaws.{come_none, come_on, come_sound, unlisted_unsound, broken_unsound, met_unsound}
 use Rattle.request.proofs.route.sound_route.Statement.{statement}
 use Rattle.request.proofs.route.sound_route.Tie as tie
 

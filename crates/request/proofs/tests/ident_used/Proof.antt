@@ -5,7 +5,7 @@ use native.Mathlib.Omega.{arith}
 use borrow.Author.Rules.{rules}
 use borrow.Author.Count.{below_more}
 use lib.ListN.{length, get_or}
-use Rattle.request.specs.RouteLaws.{has_at, none_has}
+use Rattle.request.proofs.RouteLaws.{has_at, none_has}
 use Rattle.request.proofs.tests.ident_used.Statement.{statement}
 use Rattle.request.proofs.tests.ident_used.Tie as tie
 

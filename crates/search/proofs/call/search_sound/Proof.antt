@@ -13,9 +13,9 @@ use Rattle.refusal.specs.declared.Refusal.TheVariants.{TooManyToSearch}
 use Rattle.request.specs.declared.Checked.TheVariants.{Sound, Refused}
 use Rattle.request.specs.View.{view}
 use Rattle.request.specs.Sound.{SoundRequest}
-use Rattle.request.specs.SoundLaws.{check_sound, whole_counted}
+use Rattle.request.proofs.SoundLaws.{check_sound, whole_counted}
 use Rattle.request.specs.inner.Limits.{Limits}
-use Rattle.request.specs.LimitsLaws.{checked_limits}
+use Rattle.request.proofs.LimitsLaws.{checked_limits}
 use Rattle.request.proofs.Arrays.{whole}
 use Rattle.lent.specs.LentLaws.{all_over, rooms_held}
 use Rattle.meeting.specs.declared.Compact.{Compact}
@@ -31,7 +31,7 @@ use Rattle.search.specs.FoundLaws.{found_asked}
 use Rattle.search.specs.Reply.{Buffers, rooms_of, check_search, searched}
 use Rattle.search.specs.ReplyLaws.{sizes_many, sizes_few, tested_sizes, refused_reply, refused_buffers, answered_reply, answered_buffers, plan_kept, no_plan_kept}
 use Rattle.search.specs.Demand3Laws.{best_fitted}
-use Rattle.placing.specs.FirstFitLaws.{order_blockers}
+use Rattle.placing.proofs.FirstFitLaws.{order_blockers}
 use Rattle.search.proofs.call.search_sound.Statement.{statement}
 use Rattle.search.proofs.call.search_sound.Tie as tie
 

@@ -1,0 +1,27 @@
+-- The laws of the definitions.
+pub mod ArrangeLaws
+pub mod TestLaws
+pub mod ApartLaws
+pub mod ProblemLaws
+pub mod BlockerLaws
+pub mod ScanLaws
+pub mod AllowedLaws
+pub mod FillLaws
+pub mod FirstFitLaws
+pub mod ByStartLaws
+pub mod SufficesLaws
+pub mod BoundLaws
+pub mod EarlierLaws
+pub mod OrdersLaws
+pub mod WalkBranchLaws
+pub mod TriedLaws
+pub mod WalkLaws
+pub mod LimitLaws
+pub mod SearchLaws
+pub mod SettlesLaws
+pub mod ListingLaws
+pub mod GroupsLaws
+pub mod GroupWalkLaws
+pub mod GroupsAloneLaws
+pub mod CertificateLaws
+pub mod AlikeLaws

@@ -1,0 +1,3 @@
+-- The laws of the definitions.
+pub mod ByContractLaws
+pub mod SearchPlanLaws
