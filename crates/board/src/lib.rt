@@ -1,6 +1,7 @@
 // One demand placed beside what stands: its lowest start, and who keeps it from starting lower. It knows no request: what stands goes
 // by number.
 #![tactic(auto)]
+
 ghost use Rattle.std.specs.Prelude.{◌≡◌, ◌≤◌};
 ghost use Rattle.board.specs.Board.{placed_one, entry_of};
 ghost use Rattle.board.specs.inner.Near.{spot_below};

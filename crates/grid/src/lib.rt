@@ -1,5 +1,6 @@
 // The frequency grid: a band with its limits, and the way from a block of slots to its frequency and back.
 #![tactic(auto)]
+
 ghost use Rattle.std.specs.Prelude.{◌≡◌, true};
 ghost use Rattle.grid.specs.Grid.{allowed_edge, allowed_slots, allowed_band, band_reply, allowed_width, end_within, central_number, central_mhz, frequency_reply, gap_of, even_natural, half_of, block_at, block_reply};
 
