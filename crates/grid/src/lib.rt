@@ -7,7 +7,7 @@ ghost use Rattle.grid.specs.Grid.{allowed_edge, allowed_slots, allowed_band, ban
 use refusal::Refusal;
 
 // A slotted part of the spectrum.
-#[derive(Drop)]
+#[derive(Clone, Copy)]
 pub struct Band {
     // The lower edge, in steps of 6.25 GHz from 193.1 THz.
     pub n0: i16,
