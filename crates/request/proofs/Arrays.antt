@@ -22,7 +22,7 @@ use Rattle.request.specs.contracts.Request as request
 
 -- each demand of an array has room for 32 links
 each_room : (ds : List Demand) (us : List Val) →
-    shadow (each (demand.the_field).row.Denot (demand.the_field).row.own_val (map (demand.the_field).into ds) us) →
+    shadow (each (demand.the_row).Denot (demand.the_row).own_val ds us) →
     (k : ℕ) → k < length ds → length (get_or ds k no_entry).links ≡ 32
 each_room [] us good k h = absurd (omega arith)
 each_room (d ∷ ds) [] good k h = absurd good
@@ -42,7 +42,7 @@ whole r vs good =
 
 -- each demand of an array has an ident of 16 bits
 each_ident : (ds : List Demand) (us : List Val) →
-    shadow (each (demand.the_field).row.Denot (demand.the_field).row.own_val (map (demand.the_field).into ds) us) →
+    shadow (each (demand.the_row).Denot (demand.the_row).own_val ds us) →
     (k : ℕ) → (get_or ds k no_entry).ident < 65536
 each_ident [] us good k = omega arith
 each_ident (d ∷ ds) [] good k = absurd good

@@ -1,7 +1,7 @@
 -- A sound route is a path: how many nodes it meets, and that its links, in whatever sequence they are told, say which route it is.
 use Rattle.std.specs.Prelude.{ℕ, ◌+◌, ◌≤◌, Bool, true, false, not, ◌||◌, List, [], ◌∷◌, map, ◌≢◌, ◌≡◌, refl, length, ltb, eqb}
 use Rattle.std.proofs.Math.Bool.{or-true}
-use Rattle.std.proofs.Common.{sym, ◌∙◌, ap, eqb-true, eq-eqb, ne_eqb}
+use Rattle.std.proofs.Common.{subst, sym, ◌∙◌, ap, eqb-true, eq-eqb, ne_eqb}
 use Rattle.std.proofs.lemmas.Bool.{not-true}
 use Rattle.request.specs.declared.Link.{Link}
 use Rattle.request.specs.View.{link_at}
@@ -62,7 +62,7 @@ unfolding once nodes_of
 never_back links a route sound c there same =
     let led = map (λ (b : ℕ). (link_at links b).to) (a ∷ route) in
     not_both {C = ⊥} (has (link_at links a).from led)
-    (rw same at (has_led (link_at links) c (a ∷ route) there))
+    (subst (λ (x : ℕ). has x led ≡ true) same (has_led (link_at links) c (a ∷ route) there))
     (not-true (has (link_at links a).from led) (and_first (not (has (link_at links a).from led)) (once led) (sound_parts links (a ∷ route) sound).3))
 
 -- a link that begins where no link of an unbroken route leads to does not stand behind the first one

@@ -1,5 +1,6 @@
 // Requests: a band, its links and the demands on them.
 #![tactic(auto)]
+
 use grid::Band;
 use refusal::Refusal;
 
@@ -15,14 +16,14 @@ pub use rates::width_of;
 pub use tests::test_demand;
 
 // A directed link from one node to another.
-#[derive(Drop)]
+#[derive(Clone, Copy)]
 pub struct Link {
     pub from: u8,
     pub to: u8,
 }
 
 // What a circuit asks for: so many slots, or a bit rate in Gbit/s.
-#[derive(Drop)]
+#[derive(Clone, Copy)]
 pub enum Asked {
     Width(u16),
     Rate(u16),
@@ -30,7 +31,7 @@ pub enum Asked {
 
 // A circuit asked for: its own number, what it asks for, from which its width in slots follows, and its route: the first `hops` entries
 // of `links`, each a link's number. Entries behind `hops` mean nothing.
-#[derive(Drop)]
+#[derive(Clone, Copy)]
 pub struct Demand {
     pub ident: u16,
     pub asked: Asked,
