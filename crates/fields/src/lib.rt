@@ -1,5 +1,6 @@
 // Fields of a file: a tag, the length of the body in two bytes, and the body.
 #![tactic(auto)]
+
 ghost use Rattle.std.specs.Prelude.{◌≡◌, get_or};
 ghost use Rattle.fields.specs.Field.{number16, check_field};
 

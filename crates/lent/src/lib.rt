@@ -1,5 +1,6 @@
 // Lent result buffers: whether they have room, and how their front is written.
 #![tactic(auto)]
+
 ghost use Rattle.std.specs.Prelude.{◌≡◌, length, take};
 ghost use Rattle.lent.specs.Lent.{over, check_room, check_rooms};
 

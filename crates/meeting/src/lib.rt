@@ -1,5 +1,6 @@
 // Meeting: who shares a link with whom, and a request's bound.
 #![tactic(auto)]
+
 ghost use Rattle.std.specs.Prelude.{◌≡◌};
 ghost use Rattle.request.specs.View.{view};
 ghost use Rattle.meeting.specs.Reply.{bound_reply};
@@ -20,7 +21,7 @@ pub use words::{compacted, share_bit, word_row};
 // What is asked of a request often, small enough to hand on: the band's slots and guard, how many demands there are, and by listing
 // position their widths and their routes as words, with bit k set where link k is on the route. Behind the last demand all are 0. For a
 // sound request, which has no link above 63, the words tell who shares a link with whom.
-#[derive(Drop)]
+#[derive(Clone, Copy)]
 pub struct Compact {
     pub slots: u16,
     pub guard: u8,

@@ -40,7 +40,7 @@ pub struct Demand {
 }
 
 // A request. It goes by value, so that every call has one parameter for it. Entries behind a count mean nothing.
-#[derive(Drop)]
+#[derive(Clone, Copy)]
 pub struct Request {
     pub band: Band,
     pub link_count: usize,

@@ -1,0 +1,13 @@
+use Prim.Native.Nat.{◌≤◌, ◌-◌}
+use mathlib.Core.Path.{◌≡◌}
+use lib.ListN.{take, drop}
+use lib.Dec.{eqb}
+use Rattle.meeting.specs.inner.Meeting.{some_link}
+use Rattle.meeting.proofs.route.on_link.Given as goal
+
+abbrev pub invariant-loop-p : goal.invariant-loop-p
+invariant-loop-p l =
+    (l.p ≤ l.hops) × (some_link (eqb l.link) (drop l.p (take l.hops l.links)) ≡ some_link (eqb l.link) (take l.hops l.links))
+
+abbrev pub decreases-loop-p : goal.decreases-loop-p
+decreases-loop-p l = l.hops - l.p

@@ -1,0 +1,12 @@
+use Prim.Native.Nat.{ℕ, ◌≤◌, ◌-◌}
+use mathlib.Core.Bool.{Bool, false}
+use lib.ListN.{get_or}
+use Rattle.meeting.specs.inner.Filling.{FilledTo}
+use Rattle.meeting.specs.Compact.{share_bit}
+use Rattle.meeting.proofs.words.word_row.Given as goal
+
+abbrev pub invariant-loop-j : goal.invariant-loop-j
+invariant-loop-j l = (l.j ≤ 200) × FilledTo Bool (λ (k : ℕ). share_bit (get_or l.words k 0) l.word) false 200 l.j l.row
+
+abbrev pub decreases-loop-j : goal.decreases-loop-j
+decreases-loop-j l = 200 - l.j
