@@ -1,5 +1,6 @@
 // First fit.
 #![tactic(auto)]
+
 ghost use Rattle.std.specs.Prelude.{◌≡◌, [], ◌∷◌, length};
 ghost use Rattle.request.specs.View.{view};
 ghost use Rattle.placing.specs.FirstFit.{check_first_fit, first_fit_reply, first_fit_starts, first_fit_blockers};
