@@ -1,5 +1,6 @@
 // Requests read from the bytes of a file.
 #![tactic(auto)]
+
 ghost use Rattle.std.specs.Prelude.{◌≡◌, [], ◌+◌, ◌≤◌, ◌<◌, pos, ◌-ℤ◌, length, take, drop};
 ghost use Rattle.request.specs.View.{view_demand};
 ghost use Rattle.request.specs.Encoding.{signed16};
