@@ -1,5 +1,6 @@
 // The search for the lowest end: the tree of partial orders, walked depth first.
 #![tactic(auto)]
+
 ghost use Rattle.std.specs.Prelude.{◌≡◌, cond, [], ℕ, ◌+◌, ◌*◌, ◌-◌, ◌^◌, ◌≤◌, ◌<◌, max, get_or, length};
 ghost use Rattle.theory.specs.Orders as orders;
 ghost use Rattle.theory.specs.Problem as problem;

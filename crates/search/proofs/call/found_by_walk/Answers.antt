@@ -1,4 +1,3 @@
--- `search::call::found_by_walk` meets its contract. Assumes nothing.
 use Prim.Native.Nat.{ℕ}
 use mathlib.Core.Bool.{Bool, true, false}
 use mathlib.Core.Path.{◌≡◌, sym, ap, ap₂}
@@ -6,8 +5,7 @@ use Rattle.search.specs.declared.Outcome.{Outcome}
 use Rattle.search.specs.declared.Found.{Found}
 use Rattle.search.specs.declared.Walked.{Walked}
 use Rattle.search.specs.Reply.{outcome_by}
-use Rattle.search.proofs.call.found_by_walk.Statement.{statement}
-use Rattle.search.proofs.call.found_by_walk.Tie as tie
+use Rattle.search.proofs.call.found_by_walk.Goals as goal
 
 -- what is found with an outcome
 abbrev with : Walked → ℕ → Outcome → Found
@@ -24,21 +22,18 @@ came : (w : Walked) (need : ℕ) (spent found : Bool) → w.spent ≡ spent → 
     with w need (outcome_by spent found w.mark) ≡ with w need (outcome_by w.spent w.found w.mark)
 came w need spent found hs hf = ap (with w need) (ap₂ (λ (s f : Bool). outcome_by s f w.mark) (sym hs) (sym hf))
 
-returns : tie.Need-returns
+pub returns-then-walked-2 : goal.returns-then-walked-2
 unfolding outcome_by
-returns c = came c.before.before.before.before.args.walked c.before.before.before.before.args.need true true c.before.if1.true c.if2.true
+returns-then-walked-2 c = came c.args.walked c.args.need true true c.if-walked.true c.if-walked-2.true
 
-returns-2 : tie.Need-returns-2
+pub returns-else-walked-2 : goal.returns-else-walked-2
 unfolding outcome_by
-returns-2 c = came c.before.before.before.before.args.walked c.before.before.before.before.args.need true false c.before.if1.true c.if2.false
+returns-else-walked-2 c = came c.args.walked c.args.need true false c.if-walked.true c.if-walked-2.false
 
-returns-3 : tie.Need-returns-3
+pub returns-then-walked-3 : goal.returns-then-walked-3
 unfolding outcome_by
-returns-3 c = came c.before.before.before.before.args.walked c.before.before.before.before.args.need false true c.before.if1.false c.if3.true
+returns-then-walked-3 c = came c.args.walked c.args.need false true c.if-walked.false c.if-walked-3.true
 
-returns-4 : tie.Need-returns-4
+pub returns-else-walked-3 : goal.returns-else-walked-3
 unfolding outcome_by
-returns-4 c = came c.before.before.before.before.args.walked c.before.before.before.before.args.need false false c.before.if1.false c.if3.false
-
-pub found-by-walk-spec : {M : Type 1} → statement M
-found-by-walk-spec = tie.close (tie.spec returns returns-2 returns-3 returns-4)
+returns-else-walked-3 c = came c.args.walked c.args.need false false c.if-walked.false c.if-walked-3.false
