@@ -1,9 +1,8 @@
-use Rattle.std.proofs.Common.{◌≡◌, ℕ, ◌+◌, ◌-◌, ◌*◌, ◌<◌, ◌≤◌, List, get_or, set, sym, subst, ap, ◌∙◌, arith, le_refl, le_of_lt}
+use Rattle.std.proofs.Common.{◌≡◌, ℕ, ◌+◌, ◌-◌, ◌*◌, ◌<◌, ◌≤◌, get_or, set, sym, subst, ap, ◌∙◌, arith, le_refl, le_of_lt}
 use Rattle.std.proofs.Math.Arith.{lt_of_le-ne}
 use Rattle.theory.specs.Orders as orders
 use Rattle.theory.specs.Problem as problem
 use Rattle.search.specs.inner.Arrays.{problem_of, rows_of, tally_of}
-use Rattle.search.specs.inner.Kept.{Ready, Brought, Mended}
 use Rattle.search.specs.DownLaws.{brought_mendable, brought_small, down_ready, down_rows, gone_tried}
 use Rattle.search.specs.StepLaws.{counting_tried, counting_here, counting_one, counting_more, counting_below, counting_left, counting_gone, small_start, step_end, ends_spent, ends_last, ends_left, ends_into, ends_ended}
 use Rattle.search.specs.inner.Tries.{Counting}
