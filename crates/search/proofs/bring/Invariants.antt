@@ -1,4 +1,4 @@
-use Prim.Native.Nat.{◌-◌, ◌≤◌}
+use Prim.Native.Nat.{◌≤◌}
 use Rattle.search.specs.inner.Kept.{Shifted}
 use Rattle.search.proofs.bring.Given as goal
 

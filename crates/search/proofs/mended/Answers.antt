@@ -1,6 +1,5 @@
 use Prim.Native.Nat.{ℕ, ◌+◌, ◌≤◌, ◌<◌}
 use native.Mathlib.Omega.{arith}
-use borrow.Author.Tests.{not-true, not-false}
 use lib.ListN.{get_or}
 use Rattle.search.specs.KeptLaws.{kept_bounded, passed_bounded, rows_top_of, stays_unjoined, stays_after, stays_before, mended_moves}
 use Rattle.search.proofs.mended.Goals as goal
@@ -59,7 +58,7 @@ pub returns-then-not-table-i : goal.returns-then-not-table-i
 returns-then-not-table-i c =
     let a = c.args in
     stays_unjoined a.table.now a.widths.now a.guard a.count a.order.now a.low.now a.past.now a.placed a.at c.requires.mendable a.at
-    (omega arith) c.requires.placed_lt_at.1 (not-true _ c.if-not-table-i.true)
+    (omega arith) c.requires.placed_lt_at.1 c.if-not-table-i.true
 
 pub offset_bounds-past-i : goal.offset_bounds-past-i
 offset_bounds-past-i c =
@@ -127,4 +126,4 @@ pub returns : goal.returns
 returns c =
     let a = c.args in
     mended_moves a.table.now a.widths.now a.guard a.count a.order.now a.low.now a.past.now a.placed a.at c.requires.mendable a.at
-    (omega arith) c.requires.placed_lt_at.1 (not-false _ c.if-not-table-i.false) c.if-past-i.false c.if-start-span.false c.scan.result c.scan.ensures
+    (omega arith) c.requires.placed_lt_at.1 c.if-not-table-i.false c.if-past-i.false c.if-start-span.false c.scan.result c.scan.ensures

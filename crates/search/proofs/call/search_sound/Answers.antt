@@ -4,7 +4,6 @@ use mathlib.Core.List.Memᴰ
 use mathlib.Core.List.{List, [], ◌∷◌}
 use mathlib.Core.Path.{◌≡◌, refl, sym, ap, subst, ◌∙◌}
 use native.Mathlib.Omega.{arith}
-use borrow.Author.Tests.{not-true, not-false}
 use lib.ListN.{length, take, replicate}
 use lib.Seq.{length-take-le}
 use Rattle.refusal.specs.declared.Refusal.TheVariants.{TooManyToSearch}
@@ -77,7 +76,7 @@ returns-then-not-plan c =
     let limit = c.args.limit in
     let found = found_here in
     let best = (searched v limit).best in
-    let none : is_met best ≡ false = sym found.plan_is ∙ not-true c.find-found.result.plan c.if-not-plan.true in
+    let none : is_met best ≡ false = sym found.plan_is ∙ c.if-not-plan.true in
     let stays = no_plan_kept v best (lent) none ∙ answered_buffers v limit (lent) (tested) in record { answer = ap Answered found.answer_is ∙ answered_reply v limit (rooms_of (lent)) (tested); starts = ap (λ (b : Buffers). b.starts) stays; order = ap (λ (b : Buffers). b.order) stays; blockers = ap (λ (b : Buffers). b.blockers) stays }
 
 pub slice_bounds-first-end : goal.slice_bounds-first-end
@@ -133,7 +132,7 @@ returns c =
     let best = (searched v limit).best in
     let again : List ℕ = replicate 20 0 in
     let tests = sound in
-    let some : is_met best ≡ true = sym found.plan_is ∙ not-false result.plan c.if-not-plan.false in
+    let some : is_met best ≡ true = sym found.plan_is ∙ c.if-not-plan.false in
     let starts-front : length (take K result.starts) ≡ K = length-take-le K result.starts (omega (arith, few, found.starts_whole)) in
     let order-front : length (take K result.order) ≡ K = length-take-le K result.order (omega (arith, few, found.order_whole)) in
     let kept =
