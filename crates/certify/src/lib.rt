@@ -1,5 +1,6 @@
 // Certificates: a plan, and weights which prove that no plan ends below a certain end. Who found them, and how, does not matter.
 #![tactic(auto)]
+
 ghost use Rattle.std.specs.Prelude.{◌≡◌, ◌≤◌, ◌<◌, length};
 ghost use Rattle.theory.specs.Orders.{listing};
 ghost use Rattle.theory.specs.Certificate.{weighed, certified_end};

@@ -1,6 +1,7 @@
 // A request's numbers as columns, one after the other at the front of lent buffers: of each demand its ident, its width, the rate that it
 // asks for and how many links its route has, of each link its two nodes, and the links of all routes.
 #![tactic(auto)]
+
 mod demands;
 mod routes;
 

@@ -1,5 +1,6 @@
 // Whole groups: the listing cut into consecutive groups, and first fit along every order of these. It is for lists too long to search.
 #![tactic(auto)]
+
 ghost use Rattle.std.specs.Prelude.{◌≡◌, [], ◌∷◌, length};
 ghost use Rattle.request.specs.View.{view};
 ghost use Rattle.groups.specs.Reply.{groupable, check_groups, groups_reply, groups_starts, groups_blockers};

@@ -1,5 +1,6 @@
 // Plans: starts checked.
 #![tactic(auto)]
+
 use refusal::Refusal;
 
 mod check;

@@ -1,5 +1,6 @@
 // Plan files, read and written.
 #![tactic(auto)]
+
 mod read;
 mod write;
 

@@ -6,7 +6,7 @@ ghost use Rattle.refusal.specs.Refusal.{number_of, place_of};
 
 // Why an input was refused. What a place counts is said at the call that gives it: a byte offset in a file, a listing position
 // in memory, an index, or a count.
-#[derive(Drop)]
+#[derive(Clone, Copy)]
 pub enum Refusal {
     // 1: a field of which the file has not all bytes.
     PastEnd(usize),

@@ -1,5 +1,6 @@
 // What is printed, made of proved functions on bytes.
 #![tactic(auto)]
+
 ghost use Rattle.std.specs.Prelude.{◌≡◌, true, ◌+◌, ◌≤◌, ◌<◌, [], ◌∷◌, ◌++◌, length, pos, nat_abs};
 ghost use Rattle.std.specs.Int.Signed.{lt_z, mag};
 ghost use Rattle.report.specs.Text.{decimal, decimal_signed, empty_page, appended, page_of};

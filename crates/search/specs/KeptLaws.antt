@@ -1,5 +1,5 @@
 -- That the kept starts are the lowest ones, and how a demand that was put down moves them.
-use Prim.Native.Nat.{ℕ, ◌+◌, ◌-◌, ◌≤◌, ◌<◌}
+use Prim.Native.Nat.{ℕ, ◌+◌, ◌≤◌, ◌<◌}
 use Rattle.std.specs.Prelude.{Bool, ◌≡◌, refl, ltb, set, length}
 use Rattle.std.proofs.Math.Bool.{true, false}
 use mathlib.Core.List.{List, [], ◌∷◌}

@@ -1,5 +1,5 @@
 -- What a search tests, and what its reply and its buffers are then, branch by branch.
-use Rattle.std.specs.Prelude.{ℕ, ◌≤◌, ◌<◌, true, false, List, [], ◌≡◌, refl, get_or, leb}
+use Rattle.std.specs.Prelude.{ℕ, ◌≤◌, ◌<◌, true, false, List, ◌≡◌, refl, get_or, leb}
 use Rattle.std.proofs.lemmas.Bool.{false≢true, lt-leb}
 use Rattle.std.proofs.Common.{sym, ap, ap₂, ◌∙◌, leb-true, le-leb, arith}
 use Rattle.refusal.specs.declared.Refusal.{Refusal}

@@ -9,7 +9,7 @@ use Rattle.theory.specs.Orders.{factorial}
 use Rattle.theory.proofs.OrdersLaws.{factorial_suc, factorial_pos}
 use Rattle.theory.specs.Problem.{Problem, Row, end_of, place, top}
 use Rattle.theory.proofs.ProblemLaws.{place_is, top_place}
-use Rattle.theory.specs.Walk.{Tally, stepped, leave, goes_on, complete}
+use Rattle.theory.specs.Walk.{Tally, stepped, leave, goes_on}
 use Rattle.search.specs.inner.Arrays.{problem_of, entries, rows_of, course_of, tally_of}
 use Rattle.search.specs.ArraysLaws.{rows_more}
 use Rattle.search.specs.FactorialLaws.{factorial_fits}

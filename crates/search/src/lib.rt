@@ -1,5 +1,6 @@
 // The search for the lowest end: the tree of partial orders, walked depth first.
 #![tactic(auto)]
+
 ghost use Rattle.std.specs.Prelude.{◌≡◌, cond, [], ℕ, ◌+◌, ◌*◌, ◌-◌, ◌^◌, ◌≤◌, ◌<◌, max, get_or, length};
 ghost use Rattle.theory.specs.Orders as orders;
 ghost use Rattle.theory.specs.Problem as problem;
@@ -19,7 +20,7 @@ mod table;
 pub use call::search;
 
 // How a search came out: finished with the lowest end, nothing fits, or stopped for want of steps, with the best end met or with none.
-#[derive(Drop)]
+#[derive(Clone, Copy)]
 pub enum Outcome {
     Finished(u16),
     NothingFits,
@@ -28,7 +29,7 @@ pub enum Outcome {
 }
 
 // What a search answers: how it came out, the bound, the steps taken, the orders reached and the orders ruled out.
-#[derive(Drop)]
+#[derive(Clone, Copy)]
 pub struct Answer {
     pub outcome: Outcome,
     pub bound: u32,

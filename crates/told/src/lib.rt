@@ -1,6 +1,7 @@
 // A request file read and told as structs of numbers and columns, as the calls for C tell it. An answer has the refusal 0 and the place 0;
 // a refusal has its number and its place, every other field is then 0, and every lent buffer as it was.
 #![tactic(auto)]
+
 ghost use Rattle.std.specs.Prelude.{◌≡◌, length};
 ghost use Rattle.request.specs.View.{view};
 ghost use Rattle.reading.specs.Reading.{read_file};

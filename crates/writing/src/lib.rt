@@ -1,5 +1,6 @@
 // Requests written as the bytes of a file.
 #![tactic(auto)]
+
 ghost use Rattle.std.specs.Prelude.{◌≡◌, true, ◌∷◌, map, ◌+◌, ◌*◌, ◌≤◌, pos, length, take};
 ghost use Rattle.std.proofs.lemmas.List.Edits.{sets};
 ghost use Rattle.std.specs.Int.Signed.{lt_z};

@@ -1,0 +1,73 @@
+use Prim.Native.Nat.{◌+◌, ◌<◌, ℕ}
+use mathlib.Core.Path.{ap, sym, ◌∙◌}
+use native.Mathlib.Omega.{arith}
+use borrow.Author.Rules.{rules}
+use mir.Syntax.{w32, w64, w16}
+use mir.Val.{SFits, Fits}
+use mir.Facts.{to_z-of_z}
+use Rattle.grid.specs.SignedLaws.{widened}
+use Rattle.grid.specs.Grid.{frequency_reply}
+use Rattle.request.specs.View.{view_demand}
+use Rattle.report.specs.declared.Page.{Page}
+use Rattle.report.specs.Text.{appended}
+use Rattle.report.specs.TextLaws.{appended_none, appended_length}
+use Rattle.report.specs.Lines.{row_line}
+use Rattle.report.specs.LinesLaws.{row_length}
+use Rattle.report.specs.RowsLaws.{frequency_small, row_centred, row_none}
+use Rattle.report.proofs.put_row.Goals as goal
+
+pub overflow_cast-centre : goal.overflow_cast-centre
+overflow_cast-centre c =
+    let a = c.args in
+    let w = c.width_of-width.result in
+    let wide : Fits w16 w = search rules in
+    let f = c.in-Centred.centre in
+    let centred = sym c.to_frequency.ensures ∙ c.in-Centred.is in
+    let small = frequency_small a.band a.start w f centred (omega arith) (omega arith) (omega arith) in
+    let n-fits : SFits w32 f.n = record { sfits = omega arith } in
+    let mhz-fits : SFits w64 f.mhz = record { sfits = omega arith } in
+    rw (to_z-of_z n-fits) (record { sfits = omega arith })
+
+pub put_row_line-requires : goal.put_row_line-requires
+put_row_line-requires c =
+    let a = c.args in
+    let w = c.width_of-width.result in
+    let wide : Fits w16 w = search rules in
+    let f = c.in-Centred.centre in
+    let centred = sym c.to_frequency.ensures ∙ c.in-Centred.is in
+    let small = frequency_small a.band a.start w f centred (omega arith) (omega arith) (omega arith) in
+    let n-fits : SFits w32 f.n = record { sfits = omega arith } in
+    let mhz-fits : SFits w64 f.mhz = record { sfits = omega arith } in
+    rw (widened w32 w64 f.n tt n-fits, to_z-of_z mhz-fits) record { len_bound = omega arith; end_bound = (omega arith, small.0, small.1) }
+
+pub returns-in-Centred : goal.returns-in-Centred
+unfolding view_demand
+returns-in-Centred c =
+    let a = c.args in
+    let w = c.width_of-width.result in
+    let is = c.width_of-width.ensures in
+    let named : a.demand.ident < 65536 = omega arith in
+    let wide : Fits w16 w = search rules in
+    let f = c.in-Centred.centre in
+    let centred = sym c.to_frequency.ensures ∙ c.in-Centred.is in
+    let small = frequency_small a.band a.start w f centred (omega arith) (omega arith) (omega arith) in
+    let n-fits : SFits w32 f.n = record { sfits = omega arith } in
+    let mhz-fits : SFits w64 f.mhz = record { sfits = omega arith } in
+    let row = row_centred a.band (view_demand a.demand) a.start f (ap (frequency_reply a.band a.start) (sym is) ∙ centred) in
+    let put = rw (widened w32 w64 f.n tt n-fits, to_z-of_z mhz-fits) at c.put_row_line.ensures in
+    let line = row_line a.demand.ident a.start (a.start + w) f.n f.mhz in record {
+      value = put ∙ ap (λ (n : ℕ). appended a.page (row_line a.demand.ident a.start (a.start + n) f.n f.mhz)) is ∙ ap (appended a.page) (sym row);
+      len_bound = omega (
+        arith,
+        ap (λ (p : Page). p.len) put,
+        appended_length a.page line,
+        row_length a.demand.ident a.start (a.start + w) f.n f.mhz (omega arith) (omega arith) (omega arith) small.0 small.1,
+      );
+    }
+
+pub returns-in-Refused : goal.returns-in-Refused
+unfolding view_demand
+returns-in-Refused c =
+    let a = c.args in
+    let none = row_none a.band (view_demand a.demand) a.start c.in-Refused.field-0
+    (ap (frequency_reply a.band a.start) (sym c.width_of-width.ensures) ∙ sym c.to_frequency.ensures ∙ c.in-Refused.is) in record { value = sym (ap (appended a.page) none ∙ appended_none a.page); len_bound = omega arith }

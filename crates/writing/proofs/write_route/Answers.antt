@@ -1,0 +1,43 @@
+use Prim.Native.Nat.{◌+◌, ◌-◌}
+use mathlib.Core.Path.{refl, ap, ◌∙◌}
+use native.Mathlib.Omega.{arith}
+use lib.ListN.{get_or, length-set}
+use lib.Seq.{sets, take_all}
+use Rattle.writing.specs.WritingLaws.{route_stored}
+use Rattle.writing.proofs.write_route.Goals as goal
+
+pub loop-i-init : goal.loop-i-init
+loop-i-init c = (omega arith, refl, refl)
+
+pub bounds-route-i : goal.bounds-route-i
+bounds-route-i c = omega arith
+
+pub overflow_add-out : goal.overflow_add-out
+overflow_add-out c = omega arith
+
+pub bounds-out-at : goal.bounds-out-at
+bounds-out-at c = omega arith
+
+pub overflow_add-i : goal.overflow_add-i
+overflow_add-i c = omega arith
+
+pub loop-i-smaller : goal.loop-i-smaller
+loop-i-smaller c = omega arith
+
+pub loop-i-preserved : goal.loop-i-preserved
+loop-i-preserved c =
+    let out = c.loop-i.out in
+    let i = c.loop-i.i in
+    let route = c.args.route.now in (
+      omega arith,
+      length-set out (c.args.at + i) (get_or route i 0) ∙ c.loop-i.invariant.1,
+      route_stored c.args.out.now out route c.args.at i (omega arith) c.loop-i.invariant.2,
+    )
+
+pub shape_of-out : goal.shape_of-out
+shape_of-out c = c.loop-i.invariant.1
+
+pub returns : goal.returns
+returns c =
+    let route = c.args.route.now in
+    c.loop-i.invariant.2 ∙ ap (sets c.args.out.now c.args.at) (take_all c.loop-i.i route (omega arith))
