@@ -30,7 +30,7 @@ build_sum() {
     crates=$(build_crates "$1")
     # shellcheck disable=SC2046,SC2086
     {
-        rt version
+        rt version </dev/null
         printf '^%s[ :]\n' $crates | grep -f - crates.txt
         find $(printf 'crates/%s ' $crates) \( -name must-fail -o -name out \) -prune -o -type f -print0 | sort -z | xargs -0 sha256sum
     } | sha256sum
