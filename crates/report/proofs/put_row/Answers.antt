@@ -38,7 +38,7 @@ put_row_line-requires c =
     let small = frequency_small a.band a.start w f centred (omega arith) (omega arith) (omega arith) in
     let n-fits : SFits w32 f.n = record { sfits = omega arith } in
     let mhz-fits : SFits w64 f.mhz = record { sfits = omega arith } in
-    rw (widened w32 w64 f.n tt n-fits, to_z-of_z mhz-fits) (omega arith, (omega arith, small.0, small.1))
+    rw (widened w32 w64 f.n tt n-fits, to_z-of_z mhz-fits) record { len_bound = omega arith; end_bound = (omega arith, small.0, small.1) }
 
 pub returns-in-Centred : goal.returns-in-Centred
 unfolding view_demand
