@@ -1,6 +1,7 @@
 // The program: takes a request file from standard input, searches it and prints the answer. What it prints is made by `report`. It has no
 // exit status to tell with: where its input cannot be read it prints no answer, and where its output is lost it says so.
 #![tactic(auto)]
+
 mod input;
 mod trouble;
 
