@@ -1,5 +1,5 @@
 -- What is told of an answer of the grid says all of it.
-use Rattle.std.specs.Prelude.{ℕ, [], ◌≡◌, ℤ, pos, get_or}
+use Rattle.std.specs.Prelude.{ℕ, ◌≡◌, ℤ, pos, get_or}
 use Rattle.std.proofs.Common.{sym, ap}
 use Rattle.std.specs.Int.Signed.{mag}
 use Rattle.refusal.specs.declared.Refusal.{Refusal}

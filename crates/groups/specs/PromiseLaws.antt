@@ -43,7 +43,6 @@ use Rattle.meeting.specs.PlanLaws.{slots_to_ends, ends_to_slots}
 use Rattle.placing.specs.FirstFit.{fitted}
 use Rattle.placing.specs.declared.PlacedReply.TheVariants.{Placed}
 use Rattle.placing.proofs.FirstFitLaws.{order_placed, order_starts, order_blockers}
-use Rattle.search.specs.declared.Outcome.{Outcome}
 use Rattle.search.specs.declared.Answer.{Answer}
 use Rattle.search.specs.declared.SearchReply.TheVariants as reply
 use Rattle.search.specs.Reply.{Buffers, rooms_of, searched, search_reply, check_search, answer_told, outcome_told, buffers_after, buffers_kept}

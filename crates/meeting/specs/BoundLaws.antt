@@ -1,6 +1,6 @@
 -- No allowed plan ends below the bound: the demands on one link all share it, so they need their widths and a guard between each two.
 use Prim.Native.Nat.{ℕ, zero, suc, ◌+◌, ◌-◌, ◌*◌, ◌≤◌, ◌<◌}
-use Rattle.std.specs.Prelude.{true, cond, ◌⊎◌, ◌≡◌, length}
+use Rattle.std.specs.Prelude.{true, cond, ◌≡◌, length}
 use mathlib.Core.List.{List, [], ◌∷◌, ◌++◌, append_assoc, Memᴰ}
 use Rattle.std.proofs.Common.{⊎_elim, sym, ap, ap₂, ◌∙◌, add-one, length-append}
 use Rattle.std.proofs.Math.Path.{refl, subst}

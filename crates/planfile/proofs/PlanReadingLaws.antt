@@ -1,5 +1,5 @@
 -- Reading a plan step by step: positions of idents, the checks of a row fault by fault, the rows one by one, the whole file.
-use Rattle.std.specs.Prelude.{ℕ, suc, ◌+◌, ◌≤◌, ◌<◌, Bool, true, not, List, [], ◌∷◌, ◌≡◌, length, drop, get_or, leb, eqb}
+use Rattle.std.specs.Prelude.{ℕ, suc, ◌+◌, ◌≤◌, ◌<◌, Bool, true, List, [], ◌∷◌, ◌≡◌, length, drop, get_or, leb, eqb}
 use Rattle.std.proofs.Math.Bool.{false, cond}
 use Rattle.std.proofs.Math.Path.{ap}
 use Rattle.std.proofs.Common.{◌∙◌, drop_of_length-le, drop-cons}

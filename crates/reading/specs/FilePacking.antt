@@ -1,6 +1,4 @@
 -- What reading a file gives, as values of arrays.
-use Rattle.grid.specs.declared.BandReply.{BandReply}
-use Rattle.grid.specs.declared.BandReply.TheVariants as band-reply
 use Rattle.request.specs.declared.Checked.TheVariants.{Sound, Refused}
 use Rattle.request.specs.Packing.{empty_request, pack}
 use Rattle.reading.specs.declared.Reading.{Reading}

@@ -26,7 +26,6 @@ use Rattle.meeting.specs.PlanLaws.{slots_to_ends}
 use Rattle.search.specs.declared.Outcome.{Outcome}
 use Rattle.search.specs.declared.Outcome.TheVariants.{Finished, Unfinished}
 use Rattle.search.specs.declared.Answer.{Answer}
-use Rattle.search.specs.declared.SearchReply.{SearchReply}
 use Rattle.search.specs.declared.SearchReply.TheVariants as reply
 use Rattle.search.specs.Reply.{rooms_of, searched, check_search, search_reply, buffers_after}
 use Rattle.search.specs.ReplyLaws.{passed_searchable}

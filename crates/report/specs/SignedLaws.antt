@@ -1,5 +1,5 @@
 -- Signed numbers on a page: how far a negative one is below 0, and what its decimal is.
-use Rattle.std.specs.Prelude.{ℕ, suc, ◌+◌, ◌-◌, ◌^◌, ◌≤◌, ◌<◌, true, false, ◌∷◌, ◌≡◌, refl, ℤ, pos, negsuc, nat_abs, ◌-ℤ◌, length, T}
+use Rattle.std.specs.Prelude.{ℕ, suc, ◌+◌, ◌^◌, ◌≤◌, ◌<◌, true, false, ◌∷◌, ◌≡◌, refl, ℤ, pos, negsuc, nat_abs, ◌-ℤ◌, length, T}
 use Rattle.std.proofs.Common.{ap, arith, add-one, ltb-true, le-ltb, to_z, of_z, SFits, to_z-of_z}
 use Rattle.std.specs.Int.Signed.{lt_z, mag, non_neg}
 use Rattle.std.specs.Int.{w64}

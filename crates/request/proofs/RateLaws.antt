@@ -1,6 +1,6 @@
 -- The five rates and no others are known, and each has its width.
-use Rattle.std.specs.Prelude.{ℕ, ◌+◌, ◌≤◌, ◌<◌, Bool, true, false, ◌||◌, ◌≢◌, ◌≡◌, refl, eqb, ltb, length, get_or, drop}
-use mathlib.Core.List.{List, [], ◌∷◌}
+use Rattle.std.specs.Prelude.{ℕ, ◌+◌, ◌≤◌, ◌<◌, Bool, true, false, ◌≢◌, ◌≡◌, refl, eqb, ltb, length, get_or, drop}
+use mathlib.Core.List.{List, []}
 use Rattle.std.proofs.Common.{sym, ap₂, ◌∙◌, arith, add-one, drop_of_length-le, drop-cons, eq-eqb, ne_eqb}
 use Rattle.std.proofs.Math.Path.{ap, fun_ext}
 use Rattle.theory.proofs.TestLaws.{by_test}

@@ -1,14 +1,14 @@
 -- No allowed plan ends below the end that a certificate gives: in each slot, blocks widened by the guard, the demands that hold it share no
 -- link, and so weigh at most a together.
-use Prim.Native.Nat.{ℕ, zero, suc, ◌+◌, ◌-◌, ◌*◌, ◌/◌, ◌%◌, ◌≤◌, ◌<◌, min}
-use Rattle.std.specs.Prelude.{Bool, true, false, ◌&&◌, ◌⊎◌, ◌≢◌, ◌≡◌, refl, leb, ltb}
+use Prim.Native.Nat.{ℕ, zero, suc, ◌+◌, ◌-◌, ◌*◌, ◌/◌, ◌≤◌, ◌<◌, min}
+use Rattle.std.specs.Prelude.{Bool, true, false, ◌&&◌, ◌≡◌, refl, leb, ltb}
 use Rattle.std.proofs.Math.Bool.{cond}
 use mathlib.Core.List.{List, [], ◌∷◌, Memᴰ}
-use Rattle.std.proofs.Common.{inl, inr, ◌∙◌, mul-suc, suc-mul, mul_comm, mul-le-mul_right, div-add-mod'}
+use Rattle.std.proofs.Common.{◌∙◌, mul-suc, suc-mul, mul_comm, mul-le-mul_right, div-add-mod'}
 use Rattle.std.proofs.Math.Logic.{⊎_elim}
 use Rattle.std.proofs.Math.Path.{sym, ap, ap₂, subst, fun_ext}
 use native.Mathlib.Omega.{arith}
-use borrow.Author.Tests.{ltb-true, ltb-false, leb-true, leb-false, lt-ltb, le-ltb, le-leb, lt-leb}
+use borrow.Author.Tests.{ltb-true, leb-true, lt-ltb, le-ltb, le-leb, lt-leb}
 use Rattle.theory.specs.Problem.{Problem, end_of, apart, Allowed, plan_end}
 use Rattle.theory.proofs.ProblemLaws.{end_is, plan_end_above}
 use Rattle.theory.proofs.ApartLaws.{apart_cases}

@@ -1,5 +1,5 @@
 -- A certificate that no plan ends lower: a weight for each demand, and what demands of which no two share a link may weigh together.
-use Rattle.std.specs.Prelude.{ℕ, zero, suc, ◌+◌, ◌-◌, ◌*◌, ◌/◌, ◌≤◌, ◌<◌, false, ◌≡◌}
+use Rattle.std.specs.Prelude.{ℕ, ◌+◌, ◌-◌, ◌*◌, ◌/◌, ◌≤◌, ◌<◌, false, ◌≡◌}
 use mathlib.Core.List.{List, [], ◌∷◌, Memᴰ}
 use Rattle.theory.specs.Problem.{Problem}
 use Rattle.theory.specs.Earlier.{Chained, Rising}

@@ -3,7 +3,6 @@ use mathlib.Core.List.Memᴰ
 use mathlib.Core.List.{List, [], ◌∷◌, map, Memᴰ}
 use Rattle.std.proofs.Common.{⊎_elim, sym, ap, subst, ◌∙◌}
 use Rattle.std.specs.Prelude.{◌≡◌, refl, get_or, drop}
-use Rattle.request.specs.declared.Checked.{Checked}
 use Rattle.request.specs.declared.Checked.TheVariants as checked
 use Rattle.reading.specs.declared.Reading.{Reading}
 use Rattle.request.specs.View.{View, view}

@@ -1,5 +1,5 @@
 -- Starts that agree where a plan has demands.
-use Rattle.std.specs.Prelude.{ℕ, ◌<◌, List, [], ◌≡◌}
+use Rattle.std.specs.Prelude.{ℕ, ◌<◌, List, ◌≡◌}
 use Rattle.request.specs.View.{View}
 use Rattle.meeting.specs.Plan.{start_at}
 

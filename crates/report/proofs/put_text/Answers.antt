@@ -1,6 +1,6 @@
 use native.Mathlib.Numerals.{add-one}
 use lib.Seq.{length-take-le, take-suc, take_all}
-use Prim.Native.Nat.{◌<◌, ◌-◌}
+use Prim.Native.Nat.{◌<◌}
 use mathlib.Core.Path.{◌≡◌, ap, sym, ◌∙◌}
 use mathlib.Core.List.{[], ◌∷◌}
 use native.Mathlib.Omega.{arith}

@@ -1,4 +1,4 @@
-use Prim.Native.Nat.{◌-◌, max}
+use Prim.Native.Nat.{max}
 use mathlib.Core.Path.{◌≡◌, ap, ap₂, ◌∙◌}
 use native.Mathlib.Omega.{arith}
 use Rattle.meeting.specs.Bound.{bound_over}

@@ -1,5 +1,4 @@
-use Prim.Native.Nat.{◌≤◌, ◌-◌, ◌*◌}
-use mathlib.Core.Logic.{⊎_elim}
+use Prim.Native.Nat.{◌≤◌, ◌*◌}
 use mathlib.Core.Path.{sym, ◌∙◌, ap}
 use native.Mathlib.Omega.{arith}
 use borrow.Author.Rules.{rules}

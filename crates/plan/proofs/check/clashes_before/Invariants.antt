@@ -1,4 +1,4 @@
-use Prim.Native.Nat.{◌≤◌, ◌-◌}
+use Prim.Native.Nat.{◌≤◌}
 use mathlib.Core.Path.{◌≡◌}
 use Rattle.theory.specs.Problem.{fits}
 use Rattle.meeting.specs.inner.Small.{problem_in}

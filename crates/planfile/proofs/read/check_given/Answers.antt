@@ -1,7 +1,5 @@
-use Prim.Native.Nat.{◌-◌}
 use mathlib.Core.Path.{refl, sym, ◌∙◌}
 use native.Mathlib.Omega.{arith}
-use borrow.Author.Tests.{not-true, not-false}
 use Rattle.planfile.proofs.PlanReadingLaws.{given_passes, given_refused, given_done}
 use Rattle.planfile.proofs.read.check_given.Goals as goal
 

@@ -1,5 +1,5 @@
 use Rattle.request.proofs.StepsLaws.{no_link_refused, links_too_many, links_refused_lem, links_pass}
-use Prim.Native.Nat.{ℕ, ◌-◌, min}
+use Prim.Native.Nat.{ℕ, min}
 use mathlib.Core.Path.{◌≡◌, refl, sym, ◌∙◌}
 use native.Mathlib.Omega.{arith}
 use borrow.Author.Rules.{rules}
