@@ -2,6 +2,7 @@
 // language can test them, lent buffers included. A frame is the call's number (1 byte), the length of its body (4 bytes) and the body. All
 // numbers stand with their high byte first.
 #![tactic(auto)]
+
 ghost use Rattle.std.specs.Prelude.{◌≡◌, length};
 
 use buffers::held_bytes;

@@ -25,7 +25,14 @@ pub(crate) fn answer(stdout: Stdout, body: &[u8]) -> bool {
     let a = byte_at(body, to);
     let mut starts = [0u16; 256];
     let count = held_entries(count, &starts);
-    hold(stdout, body, raw.request, &mut starts[..count], &body[from..to], a);
+    hold(
+        stdout,
+        body,
+        raw.request,
+        &mut starts[..count],
+        &body[from..to],
+        a,
+    );
     true
 }
 

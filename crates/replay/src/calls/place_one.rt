@@ -30,7 +30,10 @@ pub(crate) fn answer(stdout: Stdout, body: &[u8]) -> bool {
     let meets = standing.meets;
     let starts = standing.starts;
     let ends = standing.ends;
-    show(stdout, board::place_one(&meets, &starts, &ends, count, width, guard, slots));
+    show(
+        stdout,
+        board::place_one(&meets, &starts, &ends, count, width, guard, slots),
+    );
     true
 }
 

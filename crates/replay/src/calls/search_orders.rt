@@ -42,7 +42,14 @@ pub(crate) fn answer(stdout: Stdout, body: &[u8]) -> bool {
     true
 }
 
-fn walk(stdout: Stdout, request: Request, limit: u32, starts: &mut [u16], order: &mut [u16], blockers: &mut [u16]) {
+fn walk(
+    stdout: Stdout,
+    request: Request,
+    limit: u32,
+    starts: &mut [u16],
+    order: &mut [u16],
+    blockers: &mut [u16],
+) {
     let reply = search::search(request, limit, starts, order, blockers);
     match reply {
         SearchReply::Answered(answer) => show(stdout, answer),

@@ -20,7 +20,13 @@ pub(crate) fn answer(stdout: Stdout, body: &[u8]) -> bool {
     let mut out = lent_bytes();
     let count = held_entries(count, &starts);
     let room = held_bytes(room, &out);
-    write(stdout, body, raw.request, &mut starts[..count], &mut out[..room]);
+    write(
+        stdout,
+        body,
+        raw.request,
+        &mut starts[..count],
+        &mut out[..room],
+    );
     true
 }
 
