@@ -2,6 +2,7 @@
 // the place 0. A refusal has its number, 1 to 21, 24 or 30, and its place; every other field is then 0, but for what was refused, and
 // every lent buffer as it was.
 #![tactic(auto)]
+
 ghost use Rattle.std.specs.Prelude.{◌≡◌};
 ghost use Rattle.host.specs.Host.{version};
 

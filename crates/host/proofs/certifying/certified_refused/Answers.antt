@@ -1,0 +1,6 @@
+use Rattle.host.specs.Certified.{certified_refused}
+use Rattle.host.proofs.certifying.certified_refused.Goals as goal
+
+pub returns : goal.returns
+unfolding certified_refused
+returns c = rw (← c.number.ensures, ← c.place.ensures)
