@@ -1,6 +1,6 @@
 // The buffers of a run, and how much of one is lent to a call.
 ghost use Rattle.std.specs.Prelude.{◌≡◌, ◌≤◌, length};
-ghost use Rattle.io.specs.Counts.{IsPrefixLen};
+ghost use Rattle.std.specs.Counts.{IsPrefixLen};
 
 // The longest buffer that a frame may ask to be lent.
 pub const MOST_ROOM: usize = 8192;

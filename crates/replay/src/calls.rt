@@ -14,23 +14,25 @@ mod search_orders;
 mod write_plan;
 mod write_request;
 
+use std::io::Stdout;
+
 // Makes the call of this number. False, and nothing printed, where there is no such call or the body is not one of it.
-pub(crate) fn make_call(op: u8, body: &[u8]) -> bool {
+pub(crate) fn make_call(stdout: Stdout, op: u8, body: &[u8]) -> bool {
     match op {
-        0x01 => read_request::answer(body),
-        0x02 => check_request::answer(body),
-        0x03 => write_request::answer(body),
-        0x04 => bound::answer(body),
-        0x05 => first_fit::answer(body),
-        0x06 => search_orders::answer(body),
-        0x07 => check_starts::answer(body),
-        0x08 => read_plan::answer(body),
-        0x09 => write_plan::answer(body),
-        0x0A => frequency::answer(body),
-        0x0B => block::answer(body),
-        0x0C => group_orders::answer(body),
-        0x20 => place_one::answer(body),
-        0x21 => certificate::answer(body),
+        0x01 => read_request::answer(stdout, body),
+        0x02 => check_request::answer(stdout, body),
+        0x03 => write_request::answer(stdout, body),
+        0x04 => bound::answer(stdout, body),
+        0x05 => first_fit::answer(stdout, body),
+        0x06 => search_orders::answer(stdout, body),
+        0x07 => check_starts::answer(stdout, body),
+        0x08 => read_plan::answer(stdout, body),
+        0x09 => write_plan::answer(stdout, body),
+        0x0A => frequency::answer(stdout, body),
+        0x0B => block::answer(stdout, body),
+        0x0C => group_orders::answer(stdout, body),
+        0x20 => place_one::answer(stdout, body),
+        0x21 => certificate::answer(stdout, body),
         _ => false,
     }
 }

@@ -1,29 +1,34 @@
-// What is printed, piece by piece.
+// What is printed, piece by piece. Where standard output is lost, the rest is lost with it, and nobody is told.
 ghost use Rattle.std.specs.Prelude.{◌<◌, ◌≡◌, true, pos, nat_abs};
 ghost use Rattle.std.specs.Int.Signed.{lt_z};
 
-use libc::STDOUT_FILENO;
 use plan::CheckReply;
 use refusal::Refusal;
 use request::Written;
+use std::io::Stdout;
 
-pub(crate) fn words(text: &[u8]) {
-    io::write_all(STDOUT_FILENO, text);
+pub(crate) fn words(stdout: Stdout, text: &[u8]) {
+    let _ = stdout.write_all(text);
+}
+
+// A number in decimal.
+fn decimal(stdout: Stdout, n: u64) {
+    let _ = stdout.print(n);
 }
 
 // A space and a number.
-pub(crate) fn number(n: u64) {
-    words(b" ");
-    io::print_decimal(STDOUT_FILENO, n);
+pub(crate) fn number(stdout: Stdout, n: u64) {
+    words(stdout, b" ");
+    decimal(stdout, n);
 }
 
 // A space and a signed number.
-pub(crate) fn signed(n: i64) {
+pub(crate) fn signed(stdout: Stdout, n: i64) {
     if n < 0 {
-        words(b" -");
-        io::print_decimal(STDOUT_FILENO, below_zero(n));
+        words(stdout, b" -");
+        decimal(stdout, below_zero(n));
     } else {
-        number(n as u64);
+        number(stdout, n as u64);
     }
 }
 
@@ -35,49 +40,49 @@ fn below_zero(n: i64) -> u64
     (-1 - n) as u64 + 1
 }
 
-pub(crate) fn refusal(why: Refusal) {
-    words(b"refused");
-    number(why.number() as u64);
-    number(why.place() as u64);
+pub(crate) fn refusal(stdout: Stdout, why: Refusal) {
+    words(stdout, b"refused");
+    number(stdout, why.number() as u64);
+    number(stdout, why.place() as u64);
 }
 
 // How many bytes were written, or why none.
-pub(crate) fn written(written: Written) {
+pub(crate) fn written(stdout: Stdout, written: Written) {
     match written {
         Written::Wrote(count) => {
-            words(b"wrote");
-            number(count as u64);
+            words(stdout, b"wrote");
+            number(stdout, count as u64);
         }
-        Written::Refused(why) => refusal(why),
+        Written::Refused(why) => refusal(stdout, why),
     }
 }
 
 // A word and the end of a plan that is accepted, or why it is not.
-pub(crate) fn checked(word: &[u8], reply: CheckReply) {
+pub(crate) fn checked(stdout: Stdout, word: &[u8], reply: CheckReply) {
     match reply {
         CheckReply::Accepted(end) => {
-            words(word);
-            number(end as u64);
+            words(stdout, word);
+            number(stdout, end as u64);
         }
-        CheckReply::Refused(why) => refusal(why),
+        CheckReply::Refused(why) => refusal(stdout, why),
     }
 }
 
 // A space and a buffer of bytes in hexadecimal, `-` for an empty one.
-pub(crate) fn bytes(buffer: &[u8]) {
-    words(b" ");
+pub(crate) fn bytes(stdout: Stdout, buffer: &[u8]) {
+    words(stdout, b" ");
     if buffer.len() == 0 {
-        words(b"-");
+        words(stdout, b"-");
     }
     let mut i = 0;
     while i < buffer.len() {
-        byte(buffer[i]);
+        byte(stdout, buffer[i]);
         i += 1;
     }
 }
 
-fn byte(b: u8) {
-    words(&[digit(b / 16), digit(b % 16)]);
+fn byte(stdout: Stdout, b: u8) {
+    words(stdout, &[digit(b / 16), digit(b % 16)]);
 }
 
 fn digit(n: u8) -> u8
@@ -87,26 +92,26 @@ fn digit(n: u8) -> u8
 }
 
 // A space and a buffer of entries, joined by commas, `-` for an empty one.
-pub(crate) fn entries(buffer: &[u16]) {
-    words(b" ");
+pub(crate) fn entries(stdout: Stdout, buffer: &[u16]) {
+    words(stdout, b" ");
     if buffer.len() == 0 {
-        words(b"-");
+        words(stdout, b"-");
     }
     let mut i = 0;
     while i < buffer.len() {
-        entry(buffer[i], i);
+        entry(stdout, buffer[i], i);
         i += 1;
     }
 }
 
-fn entry(n: u16, i: usize) {
+fn entry(stdout: Stdout, n: u16, i: usize) {
     if i > 0 {
-        words(b",");
+        words(stdout, b",");
     }
-    io::print_decimal(STDOUT_FILENO, n as u64);
+    decimal(stdout, n as u64);
 }
 
 // The end of a line.
-pub(crate) fn end() {
-    words(b"\n");
+pub(crate) fn end(stdout: Stdout) {
+    words(stdout, b"\n");
 }

@@ -3,8 +3,9 @@ use crate::numbers::{four_at, signed_four, two_at};
 use crate::raw::band_at;
 use crate::say;
 use grid::BlockReply;
+use std::io::Stdout;
 
-pub(crate) fn answer(body: &[u8]) -> bool {
+pub(crate) fn answer(stdout: Stdout, body: &[u8]) -> bool {
     if body.len() != 11 {
         return false;
     }
@@ -12,12 +13,12 @@ pub(crate) fn answer(body: &[u8]) -> bool {
     let reply = grid::from_frequency(band_at(body, 0), n, two_at(body, 9));
     match reply {
         BlockReply::Found(block) => {
-            say::words(b"block");
-            say::number(block.start as u64);
-            say::number(block.width as u64);
+            say::words(stdout, b"block");
+            say::number(stdout, block.start as u64);
+            say::number(stdout, block.width as u64);
         }
-        BlockReply::Refused(why) => say::refusal(why),
+        BlockReply::Refused(why) => say::refusal(stdout, why),
     }
-    say::end();
+    say::end(stdout);
     true
 }

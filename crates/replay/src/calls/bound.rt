@@ -2,8 +2,9 @@
 use crate::raw::raw_at;
 use crate::say;
 use meeting::BoundReply;
+use std::io::Stdout;
 
-pub(crate) fn answer(body: &[u8]) -> bool {
+pub(crate) fn answer(stdout: Stdout, body: &[u8]) -> bool {
     let raw = raw_at(body, 0);
     if raw.end != body.len() {
         return false;
@@ -11,11 +12,11 @@ pub(crate) fn answer(body: &[u8]) -> bool {
     let reply = meeting::bound(raw.request);
     match reply {
         BoundReply::Bound(bound) => {
-            say::words(b"bound");
-            say::number(bound as u64);
+            say::words(stdout, b"bound");
+            say::number(stdout, bound as u64);
         }
-        BoundReply::Refused(why) => say::refusal(why),
+        BoundReply::Refused(why) => say::refusal(stdout, why),
     }
-    say::end();
+    say::end(stdout);
     true
 }

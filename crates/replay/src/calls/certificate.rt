@@ -5,11 +5,12 @@ use crate::raw::raw_at;
 use crate::say;
 use certify::Certified;
 use request::Request;
+use std::io::Stdout;
 
 // The most starts, and the most weights, that stand in a body, however large a count is.
 const MOST_LISTED: usize = 256;
 
-pub(crate) fn answer(body: &[u8]) -> bool {
+pub(crate) fn answer(stdout: Stdout, body: &[u8]) -> bool {
     let count = listed(two_at(body, 0) as usize);
     let counted = next(next(2, count), count);
     let from = next(counted, 2);
@@ -24,7 +25,14 @@ pub(crate) fn answer(body: &[u8]) -> bool {
     let a = byte_at(body, to);
     let mut starts = [0u16; 256];
     let count = held_entries(count, &starts);
-    hold(body, raw.request, &mut starts[..count], &body[from..to], a);
+    hold(
+        stdout,
+        body,
+        raw.request,
+        &mut starts[..count],
+        &body[from..to],
+        a,
+    );
     true
 }
 
@@ -37,19 +45,19 @@ fn listed(count: usize) -> usize {
     }
 }
 
-fn hold(body: &[u8], request: Request, starts: &mut [u16], weights: &[u8], a: u8) {
+fn hold(stdout: Stdout, body: &[u8], request: Request, starts: &mut [u16], weights: &[u8], a: u8) {
     read_entries(body, 2, starts);
     match certify::certify(request, starts, weights, a) {
         Certified::Best(end) => {
-            say::words(b"best");
-            say::number(end as u64);
+            say::words(stdout, b"best");
+            say::number(stdout, end as u64);
         }
         Certified::AtLeast(low, end) => {
-            say::words(b"atleast");
-            say::number(low as u64);
-            say::number(end as u64);
+            say::words(stdout, b"atleast");
+            say::number(stdout, low as u64);
+            say::number(stdout, end as u64);
         }
-        Certified::Refused(why) => say::refusal(why),
+        Certified::Refused(why) => say::refusal(stdout, why),
     }
-    say::end();
+    say::end(stdout);
 }

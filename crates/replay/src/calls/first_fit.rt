@@ -5,8 +5,9 @@ use crate::raw::raw_at;
 use crate::say;
 use placing::PlacedReply;
 use request::Request;
+use std::io::Stdout;
 
-pub(crate) fn answer(body: &[u8]) -> bool {
+pub(crate) fn answer(stdout: Stdout, body: &[u8]) -> bool {
     let starts_room = two_at(body, 0) as usize;
     let blockers_room = two_at(body, 2) as usize;
     let count = two_at(body, 4) as usize;
@@ -27,6 +28,7 @@ pub(crate) fn answer(body: &[u8]) -> bool {
     let starts_room = held_entries(starts_room, &starts);
     let blockers_room = held_entries(blockers_room, &blockers);
     place(
+        stdout,
         body,
         raw.request,
         &mut order[..count],
@@ -37,6 +39,7 @@ pub(crate) fn answer(body: &[u8]) -> bool {
 }
 
 fn place(
+    stdout: Stdout,
     body: &[u8],
     request: Request,
     order: &mut [u16],
@@ -47,16 +50,16 @@ fn place(
     let reply = placing::first_fit(request, order, starts, blockers);
     match reply {
         PlacedReply::Placed(end) => {
-            say::words(b"placed");
-            say::number(end as u64);
+            say::words(stdout, b"placed");
+            say::number(stdout, end as u64);
         }
-        PlacedReply::Refused(why) => say::refusal(why),
+        PlacedReply::Refused(why) => say::refusal(stdout, why),
         PlacedReply::Blocked(why, blocker) => {
-            say::refusal(why);
-            say::number(blocker as u64);
+            say::refusal(stdout, why);
+            say::number(stdout, blocker as u64);
         }
     }
-    say::entries(starts);
-    say::entries(blockers);
-    say::end();
+    say::entries(stdout, starts);
+    say::entries(stdout, blockers);
+    say::end(stdout);
 }

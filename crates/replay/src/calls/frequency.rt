@@ -5,22 +5,23 @@ use crate::numbers::two_at;
 use crate::raw::band_at;
 use crate::say;
 use grid::FrequencyReply;
+use std::io::Stdout;
 
-pub(crate) fn answer(body: &[u8]) -> bool {
+pub(crate) fn answer(stdout: Stdout, body: &[u8]) -> bool {
     if body.len() != 9 {
         return false;
     }
     let reply = grid::to_frequency(band_at(body, 0), two_at(body, 5), two_at(body, 7));
     match reply {
         FrequencyReply::Centred(frequency) => {
-            say::words(b"frequency");
-            say::signed(wide(frequency.n));
-            say::number(frequency.m as u64);
-            say::signed(frequency.mhz);
+            say::words(stdout, b"frequency");
+            say::signed(stdout, wide(frequency.n));
+            say::number(stdout, frequency.m as u64);
+            say::signed(stdout, frequency.mhz);
         }
-        FrequencyReply::Refused(why) => say::refusal(why),
+        FrequencyReply::Refused(why) => say::refusal(stdout, why),
     }
-    say::end();
+    say::end(stdout);
     true
 }
 

@@ -5,8 +5,9 @@ use crate::raw::raw_at;
 use crate::say;
 use groups::Grouping;
 use request::Request;
+use std::io::Stdout;
 
-pub(crate) fn answer(body: &[u8]) -> bool {
+pub(crate) fn answer(stdout: Stdout, body: &[u8]) -> bool {
     let starts_room = two_at(body, 0) as usize;
     let blockers_room = two_at(body, 2) as usize;
     let m = four_at(body, 4) as usize;
@@ -25,6 +26,7 @@ pub(crate) fn answer(body: &[u8]) -> bool {
     let starts_room = held_entries(starts_room, &starts);
     let blockers_room = held_entries(blockers_room, &blockers);
     group(
+        stdout,
         raw.request,
         m,
         &mut starts[..starts_room],
@@ -33,21 +35,21 @@ pub(crate) fn answer(body: &[u8]) -> bool {
     true
 }
 
-fn group(request: Request, m: usize, starts: &mut [u16], blockers: &mut [u16]) {
+fn group(stdout: Stdout, request: Request, m: usize, starts: &mut [u16], blockers: &mut [u16]) {
     let reply = groups::groups(request, m, starts, blockers);
     let order = reply.order;
     let outcome = reply.outcome;
     match outcome {
         Grouping::Grouped(end) => {
-            say::words(b"grouped");
-            say::number(end as u64);
+            say::words(stdout, b"grouped");
+            say::number(stdout, end as u64);
             let held = held_entries(m, &order);
-            say::entries(&order[..held]);
+            say::entries(stdout, &order[..held]);
         }
-        Grouping::NothingFound => say::words(b"nothing"),
-        Grouping::Refused(why) => say::refusal(why),
+        Grouping::NothingFound => say::words(stdout, b"nothing"),
+        Grouping::Refused(why) => say::refusal(stdout, why),
     }
-    say::entries(starts);
-    say::entries(blockers);
-    say::end();
+    say::entries(stdout, starts);
+    say::entries(stdout, blockers);
+    say::end(stdout);
 }

@@ -4,6 +4,7 @@ ghost use Rattle.std.specs.Prelude.{◌≤◌};
 use crate::numbers::{byte_at, next, two_at};
 use crate::say;
 use board::{Blocker, Placement, Spot};
+use std::io::Stdout;
 
 // As many numbers as can stand.
 const MOST_NUMBERS: usize = 200;
@@ -17,7 +18,7 @@ struct Standing {
     end: usize,
 }
 
-pub(crate) fn answer(body: &[u8]) -> bool {
+pub(crate) fn answer(stdout: Stdout, body: &[u8]) -> bool {
     let count = two_at(body, 0) as usize;
     let standing = standing_at(body, 8, count);
     if standing.end != body.len() {
@@ -29,7 +30,10 @@ pub(crate) fn answer(body: &[u8]) -> bool {
     let meets = standing.meets;
     let starts = standing.starts;
     let ends = standing.ends;
-    show(board::place_one(&meets, &starts, &ends, count, width, guard, slots));
+    show(
+        stdout,
+        board::place_one(&meets, &starts, &ends, count, width, guard, slots),
+    );
     true
 }
 
@@ -68,23 +72,23 @@ fn numbers_held(count: usize) -> usize
     }
 }
 
-fn show(placement: Placement) {
+fn show(stdout: Stdout, placement: Placement) {
     let spot = placement.spot;
     match spot {
         Spot::At(start) => {
-            say::words(b"at");
-            say::number(start as u64);
+            say::words(stdout, b"at");
+            say::number(stdout, start as u64);
         }
-        Spot::Nowhere => say::words(b"nowhere"),
+        Spot::Nowhere => say::words(stdout, b"nowhere"),
     }
     let blocker = placement.blocker;
-    show_blocker(blocker);
-    say::end();
+    show_blocker(stdout, blocker);
+    say::end(stdout);
 }
 
-fn show_blocker(blocker: Blocker) {
+fn show_blocker(stdout: Stdout, blocker: Blocker) {
     match blocker {
-        Blocker::Nobody => say::words(b" none"),
-        Blocker::Number(number) => say::number(number as u64),
+        Blocker::Nobody => say::words(stdout, b" none"),
+        Blocker::Number(number) => say::number(stdout, number as u64),
     }
 }

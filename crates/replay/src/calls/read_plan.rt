@@ -4,8 +4,9 @@ use crate::numbers::{next, two_at};
 use crate::raw::raw_at;
 use crate::say;
 use request::Request;
+use std::io::Stdout;
 
-pub(crate) fn answer(body: &[u8]) -> bool {
+pub(crate) fn answer(stdout: Stdout, body: &[u8]) -> bool {
     let room = two_at(body, 0) as usize;
     let file_end = next(4, two_at(body, 2) as usize);
     if file_end > body.len() {
@@ -20,13 +21,13 @@ pub(crate) fn answer(body: &[u8]) -> bool {
     }
     let mut starts = lent_entries();
     let room = held_entries(room, &starts);
-    read(raw.request, &body[4..file_end], &mut starts[..room]);
+    read(stdout, raw.request, &body[4..file_end], &mut starts[..room]);
     true
 }
 
-fn read(request: Request, file: &[u8], starts: &mut [u16]) {
+fn read(stdout: Stdout, request: Request, file: &[u8], starts: &mut [u16]) {
     let reply = planfile::read_plan(request, file, starts);
-    say::checked(b"read", reply);
-    say::entries(starts);
-    say::end();
+    say::checked(stdout, b"read", reply);
+    say::entries(stdout, starts);
+    say::end(stdout);
 }

@@ -2,27 +2,28 @@
 use crate::buffers::{held_bytes, lent_bytes};
 use crate::say;
 use request::{Checked, Request, Written};
+use std::io::Stdout;
 
-pub(crate) fn answer(body: &[u8]) -> bool {
+pub(crate) fn answer(stdout: Stdout, body: &[u8]) -> bool {
     let reading = reading::read_request(body);
     let verdict = reading.verdict;
     match verdict {
-        Checked::Sound => show(reading.request),
-        Checked::Refused(why) => say::refusal(why),
+        Checked::Sound => show(stdout, reading.request),
+        Checked::Refused(why) => say::refusal(stdout, why),
     }
-    say::end();
+    say::end(stdout);
     true
 }
 
-fn show(request: Request) {
+fn show(stdout: Stdout, request: Request) {
     let mut out = lent_bytes();
     let written = writing::write_request(request, &mut out);
     match written {
         Written::Wrote(count) => {
             let count = held_bytes(count, &out);
-            say::words(b"read");
-            say::bytes(&out[..count]);
+            say::words(stdout, b"read");
+            say::bytes(stdout, &out[..count]);
         }
-        Written::Refused(why) => say::refusal(why),
+        Written::Refused(why) => say::refusal(stdout, why),
     }
 }

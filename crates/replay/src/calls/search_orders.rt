@@ -5,8 +5,9 @@ use crate::raw::raw_at;
 use crate::say;
 use request::Request;
 use search::{Answer, Outcome, SearchReply};
+use std::io::Stdout;
 
-pub(crate) fn answer(body: &[u8]) -> bool {
+pub(crate) fn answer(stdout: Stdout, body: &[u8]) -> bool {
     let limit = four_at(body, 0);
     let starts_room = two_at(body, 4) as usize;
     let order_room = two_at(body, 6) as usize;
@@ -31,6 +32,7 @@ pub(crate) fn answer(body: &[u8]) -> bool {
     let order_room = held_entries(order_room, &order);
     let blockers_room = held_entries(blockers_room, &blockers);
     walk(
+        stdout,
         raw.request,
         limit,
         &mut starts[..starts_room],
@@ -40,38 +42,45 @@ pub(crate) fn answer(body: &[u8]) -> bool {
     true
 }
 
-fn walk(request: Request, limit: u32, starts: &mut [u16], order: &mut [u16], blockers: &mut [u16]) {
+fn walk(
+    stdout: Stdout,
+    request: Request,
+    limit: u32,
+    starts: &mut [u16],
+    order: &mut [u16],
+    blockers: &mut [u16],
+) {
     let reply = search::search(request, limit, starts, order, blockers);
     match reply {
-        SearchReply::Answered(answer) => show(answer),
-        SearchReply::Refused(why) => say::refusal(why),
+        SearchReply::Answered(answer) => show(stdout, answer),
+        SearchReply::Refused(why) => say::refusal(stdout, why),
     }
-    say::entries(starts);
-    say::entries(order);
-    say::entries(blockers);
-    say::end();
+    say::entries(stdout, starts);
+    say::entries(stdout, order);
+    say::entries(stdout, blockers);
+    say::end(stdout);
 }
 
-fn show(answer: Answer) {
+fn show(stdout: Stdout, answer: Answer) {
     let outcome = answer.outcome;
     match outcome {
-        Outcome::Finished(end) => show_end(b"finished", end),
-        Outcome::NothingFits => show_end(b"nofit", 0),
-        Outcome::Unfinished(end) => show_end(b"unfinished", end),
-        Outcome::UnfinishedEmpty => show_end(b"unfinished-empty", 0),
+        Outcome::Finished(end) => show_end(stdout, b"finished", end),
+        Outcome::NothingFits => show_end(stdout, b"nofit", 0),
+        Outcome::Unfinished(end) => show_end(stdout, b"unfinished", end),
+        Outcome::UnfinishedEmpty => show_end(stdout, b"unfinished-empty", 0),
     }
-    show_count(b" bound", answer.bound as u64);
-    show_count(b" steps", answer.steps as u64);
-    show_count(b" reached", answer.reached);
-    show_count(b" ruled", answer.ruled);
+    show_count(stdout, b" bound", answer.bound as u64);
+    show_count(stdout, b" steps", answer.steps as u64);
+    show_count(stdout, b" reached", answer.reached);
+    show_count(stdout, b" ruled", answer.ruled);
 }
 
-fn show_end(word: &[u8], end: u16) {
-    say::words(word);
-    show_count(b" end", end as u64);
+fn show_end(stdout: Stdout, word: &[u8], end: u16) {
+    say::words(stdout, word);
+    show_count(stdout, b" end", end as u64);
 }
 
-fn show_count(name: &[u8], count: u64) {
-    say::words(name);
-    say::number(count);
+fn show_count(stdout: Stdout, name: &[u8], count: u64) {
+    say::words(stdout, name);
+    say::number(stdout, count);
 }

@@ -4,8 +4,9 @@ use crate::numbers::two_at;
 use crate::raw::raw_at;
 use crate::say;
 use request::Request;
+use std::io::Stdout;
 
-pub(crate) fn answer(body: &[u8]) -> bool {
+pub(crate) fn answer(stdout: Stdout, body: &[u8]) -> bool {
     let room = two_at(body, 0) as usize;
     let raw = raw_at(body, 2);
     if raw.end != body.len() {
@@ -16,13 +17,13 @@ pub(crate) fn answer(body: &[u8]) -> bool {
     }
     let mut out = lent_bytes();
     let room = held_bytes(room, &out);
-    write(raw.request, &mut out[..room]);
+    write(stdout, raw.request, &mut out[..room]);
     true
 }
 
-fn write(request: Request, out: &mut [u8]) {
+fn write(stdout: Stdout, request: Request, out: &mut [u8]) {
     let written = writing::write_request(request, out);
-    say::written(written);
-    say::bytes(out);
-    say::end();
+    say::written(stdout, written);
+    say::bytes(stdout, out);
+    say::end(stdout);
 }
