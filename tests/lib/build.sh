@@ -78,7 +78,7 @@ build_due() {
     elif [ -n "$3" ]; then
         # shellcheck disable=SC2086
         build_say "to be proved before it runs, $(wc -w <<<"$3") of $(wc -w <<<"$2") crates:" $3
-        build_say "all $(wc -w <<<"$2") together take 5 to 15 minutes, once; each is named here when it is proved"
+        build_say "all $(wc -w <<<"$2") together take 3 to 8 minutes, once; each is named here when it is proved"
     fi
 }
 
