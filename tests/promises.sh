@@ -36,11 +36,13 @@ public_functions() {
     done
 }
 
-# The lines of a contract: from the function's line to the one that opens its body, which ends in a brace and is no clause.
+# The lines of a contract, without the names of its clauses: from the function's line to the one that opens its body, which ends in a brace
+# and is no clause.
 contract_of() {
     awk -v from="$2" '
         NR < from { next }
         /[{]$/ && !/^ *(ensures|requires|ghost) / { sub(/ *[{]$/, ""); print; exit }
+        /^ *(ensures|requires) [a-z_0-9]+ [{]/ { sub(/ [a-z_0-9]+ [{]/, " {") }
         { print }' "$1"
 }
 
@@ -59,12 +61,12 @@ rows_of_the_table() {
     }' "$table"
 }
 
-# The statement of a theorem: from its name to the line before its first clause.
+# The statement of a theorem: from its name to the line before its first clause. Laws stand beside the definitions, or in proofs/.
 statement_of() {
-    awk -v name="$2" '
+    find crates/"$1"/specs crates/"$1"/proofs -maxdepth 1 -name '*Laws.antt' -print0 | sort -z | xargs -0 awk -v name="$2" '
         $0 ~ "^ *pub " name " :" { on = 1 }
         on && ($0 ~ "^ *" name " " || $0 ~ "^ *unfolding ") { exit }
-        on' crates/"$1"/specs/*Laws.antt
+        on'
 }
 
 # Whether the first file that an edit changes is code of its crate.
@@ -74,7 +76,7 @@ changes_code() { grep -m1 '^file:' "$1" | grep -q '^file: src/'; }
 defines() { grep -qE "^ *(unfoldable |abbrev )?pub (record |data )?$2( |\$)" "$1" 2>/dev/null; }
 
 # A word that stands in the text on standard input, whole.
-has_word() { grep -qE "(^|[^[:alnum:]_′-])$1([^[:alnum:]_′-]|\$)"; }
+has_word() { grep -qE "(^|[^[:alnum:]_'-])$1([^[:alnum:]_'-]|\$)"; }
 
 check_row() {
     local crate=$1 name=$2 file=$3 line=$4 definitions theorem first second
@@ -82,12 +84,12 @@ check_row() {
     contract_of "$file" "$line" >"$work/contract"
     statement_of "$crate" "$theorem" >"$work/statement"
     if grep -q '^[ ]*requires' "$work/contract"; then fail "$crate::$name has a requires"; else pass; fi
-    if [ -s "$work/statement" ]; then pass; else fail "$crate::$name: no theorem $theorem in crates/$crate/specs"; fi
-    case $theorem in same-*) pass ;; *) fail "$crate::$name: $theorem is not named as a theorem of two results" ;; esac
+    if [ -s "$work/statement" ]; then pass; else fail "$crate::$name: no theorem $theorem among the laws of crates/$crate"; fi
+    case $theorem in same_*) pass ;; *) fail "$crate::$name: $theorem is not named as a theorem of two results" ;; esac
     [ -n "$definitions" ] || fail "$crate::$name names no definition"
     equations_in "$work/contract" >"$work/equations"
     if [ -s "$work/equations" ]; then pass; else fail "$crate::$name has no equation in its contract"; fi
-    if [ "$(grep -o '&mut ' "$work/contract" | wc -l)" = "$(grep -c '\.exit) ≡' "$work/equations" || true)" ]; then
+    if [ "$(grep -o '&mut ' "$work/contract" | wc -l)" = "$(grep -c '{ [a-z_]*\.new ≡' "$work/equations" || true)" ]; then
         pass
     else
         fail "$crate::$name does not say what each lent slice holds afterwards"
@@ -146,19 +148,20 @@ while read -r path name; do
     if defines "$path" "$name"; then pass; else fail "$table names $name in $path, where it is not"; fi
 done < <(grep -ohE '`crates/[a-z]+/(specs|proofs)/[A-Za-z0-9/]+\.antt` `[^` ]+`' "$table" | tr -d '`')
 
-# And those that the other documents name in the form NAME/specs/FILE `name`, `name`; or, in docs/MATHEMATICS.md, `name`, `name` (FILE), of
-# crate theory. A file of inner definitions may be named without its folder.
+# And those that the other documents name in the form NAME/specs/FILE `name`, `name`, or with proofs/; or, in docs/MATHEMATICS.md, `name`,
+# `name` (FILE), of crate theory, whose laws are in proofs/. A file of inner definitions may be named without its folder.
 named_elsewhere() {
-    grep -oE '[a-z]+/specs/[A-Za-z0-9/]+ `[^`/ ]+`(, `[^`/ ]+`)*' docs/*.md | while read -r found; do
+    grep -oE '[a-z]+/(specs|proofs)/[A-Za-z0-9/]+ `[^`/ ]+`(, `[^`/ ]+`)*' docs/*.md | while read -r found; do
         place=${found#*:}
         for name in $(grep -oE '`[^`]+`' <<<"$place" | tr -d '`'); do
             echo "${found%%:*} ${place%% *} $name"
         done
     done
     grep -oE '(`[^`/ ]+`, )*`[^`/ ]+`[*]* \([A-Z][A-Za-z]+\)' docs/MATHEMATICS.md | while read -r found; do
-        file=${found##*(}
+        file=${found##*(} folder=specs
+        case $file in *Laws\)) folder=proofs ;; esac
         for name in $(grep -oE '`[^`]+`' <<<"$found" | tr -d '`'); do
-            echo "docs/MATHEMATICS.md theory/specs/${file%)} $name"
+            echo "docs/MATHEMATICS.md theory/$folder/${file%)} $name"
         done
     done
 }

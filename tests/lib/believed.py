@@ -20,18 +20,32 @@ ROOT = pathlib.Path(__file__).resolve().parents[2]
 PAGE = 50
 TABLES = {("worked", "Requests"), ("worked", "Calls"), ("worked", "Table"), ("worked", "Worked"), ("report", "ReportExample")}
 
-USE = re.compile(r"^(?:ghost )?use (Rattle·\S+?)(?:\.\{([^}]*)\}| as (\S+?));?$")
+USE = re.compile(r"^(?:ghost )?use (Rattle\.\S+?)(?:\.\{([^}]*)\}| as (\S+?));?$")
+LABEL = re.compile(r"^( *)(ensures|requires) \w+ \{")
 START = re.compile(r"^(?:unfoldable |abbrev )?(pub )?(record |data )?([^\s:(){}]+)(?= |$)")
-TOKEN = re.compile(r"[^\s(){}\[\],;⌜⌝]+")
+TOKEN = re.compile(r"[^\s(){}\[\],;]+")
 
 
 def module_of(path):
-    """The crate and the module of an imported path, or None where it is no file of specs."""
+    """The crate and the module of an imported path, or None where it is neither a file of specs nor one of laws."""
     parts = path.split(".")
-    crate = parts[0][len("Rattle·") :].split("·")[0]
-    if len(parts) < 3 or parts[1] != "specs" or parts[2] == "declared":
+    if len(parts) < 4 or parts[3] == "declared":
         return None
-    return crate, ".".join(parts[2:])
+    if parts[2] == "specs" or (parts[2] == "proofs" and is_laws(parts[-1])):
+        return parts[1], ".".join(parts[3:])
+    return None
+
+
+def joined(lines):
+    """The lines, with an import that goes over several of them on one."""
+    begun = ""
+    for line in lines:
+        if begun or re.match(r"(ghost )?use .*\{[^}]*$", line):
+            begun += line.strip() if begun else line
+            if "}" not in line:
+                continue
+            line, begun = begun, ""
+        yield line
 
 
 class Text:
@@ -75,7 +89,7 @@ class Spec(Text):
     def read(self):
         modules = []  # the indentation and the text of each module that is open
         current = header = None
-        for line in map(without_comment, self.lines):
+        for line in joined(map(without_comment, self.lines)):
             text = line.strip()
             if not text:
                 continue
@@ -121,18 +135,19 @@ class Spec(Text):
 
 
 def cited(text, file, specs):
-    """The definitions that a text of a file cites."""
+    """The definitions that a text of a file cites. A dot behind a name is a field's, or the end of what a λ binds; behind a module's it is
+    the name's own."""
     for token in TOKEN.findall(text):
         if token.startswith("."):
             continue
-        token = token.rstrip(".")
-        module, name = None, token
-        if token in getattr(file, "definitions", {}) or token in getattr(file, "constructors", {}):
+        name, *rest = token.split(".")
+        module = None
+        if name in getattr(file, "definitions", {}) or name in getattr(file, "constructors", {}):
             module = file.key
-        elif token in file.names:
-            module, name = file.names[token]
-        elif "." in token and token.split(".")[0] in file.aliases:
-            module, name = file.aliases[token.split(".")[0]], token.split(".", 1)[1]
+        elif name in file.names:
+            module, name = file.names[name]
+        elif rest and name in file.aliases:
+            module, name = file.aliases[name], rest[0]
         spec = specs.get(module)
         if spec:
             name = spec.constructors.get(name, name)
@@ -142,7 +157,7 @@ def cited(text, file, specs):
 
 def all_specs():
     specs = {}
-    for path in sorted(ROOT.glob("crates/*/specs/**/*.antt")):
+    for path in sorted([*ROOT.glob("crates/*/specs/**/*.antt"), *ROOT.glob("crates/*/proofs/*Laws.antt")]):
         relative = path.relative_to(ROOT / "crates").with_suffix("").parts
         module = ".".join(relative[2:])
         if module in ("Lib", "inner"):
@@ -164,7 +179,7 @@ def public_contracts():
     for path in sorted(ROOT.glob("crates/*/src/**/*.rt")):
         crate = path.relative_to(ROOT / "crates").parts[0]
         file, contract, name = Text(), None, ""
-        for line in path.read_text().splitlines():
+        for line in joined(path.read_text().splitlines()):
             if contract is None:
                 file.use(line)
                 found = re.search(r'(?:^|[ \]])pub (?:[a-z]+ |"C" )*fn (\w+)', line)
@@ -174,16 +189,16 @@ def public_contracts():
                 yield crate, name, " ".join(contract), file
                 contract = None
             elif contract or re.match(r" *(ensures|requires) ", line):
-                contract.append(line)
+                contract.append(LABEL.sub(r"\1\2 {", line))
 
 
 def named_theorems():
     """The theorems and definitions that docs/PROMISES.md names, and the theorem of each row, as crate, module, name."""
     table = (ROOT / "docs/PROMISES.md").read_text()
-    for path, name in re.findall(r"`crates/(\w+/specs/[\w/]+)\.antt` `([^` ]+)`", table):
+    for path, name in re.findall(r"`crates/(\w+/(?:specs/[\w/]+|proofs/\w+Laws))\.antt` `([^` ]+)`", table):
         crate, _, module = path.split("/", 2)
         yield crate, module.replace("/", "."), name
-    for crate, theorem in re.findall(r"^\| `(\w+)::[^|]*\|[^|]*\|[^|]*\| `(same-[^`]+)` \|", table, re.M):
+    for crate, theorem in re.findall(r"^\| `(\w+)::[^|]*\|[^|]*\|[^|]*\| `(same_[^`]+)` \|", table, re.M):
         yield crate, None, theorem
 
 
