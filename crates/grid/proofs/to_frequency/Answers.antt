@@ -24,9 +24,9 @@ pub returns-then-not-end_good : goal.returns-then-not-end_good
 returns-then-not-end_good c =
     let a = c.args in
     let allowed = (sym c.allowed.ensures ∙ c.if-not-allowed.false) in
-    let width = (sym c.width_allowed-width_good.ensures ∙ c.if-not-width_good.false) in
+    let wide_enough = (sym c.width_allowed-width_good.ensures ∙ c.if-not-width_good.false) in
     let end = (sym c.end_within-end_good.ensures ∙ c.if-not-end_good.true) in
-    sym (frequency_end a.band a.start a.width allowed width end)
+    sym (frequency_end a.band a.start a.width allowed wide_enough end)
 
 pub returns : goal.returns
 returns c =

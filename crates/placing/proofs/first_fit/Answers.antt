@@ -96,8 +96,8 @@ returns-in-Placed c =
     let limits : Limits (view c.args.request) = checked_limits c.args.request (whole c.args.request _ c.well_formed.0) (request_sound (view c.args.request) c.args.order.now (rooms_of) (tested)) in
     let sound : SoundRequest (view c.args.request) = check_sound (view c.args.request) (whole_counted c.args.request (whole c.args.request _ c.well_formed.0)) (request_sound (view c.args.request) c.args.order.now (rooms_of) (tested)) in
     let answered : c.place_all-reply.result ≡ fitted_reply (view c.args.request) (fitted (view c.args.request) c.args.order.now) = c.place_all-reply.ensures.reply ∙ small_reply (view c.args.request) (sound) (limits) _ c.compacted-compact.ensures c.args.order.now in
-    let blockers-room : (view c.args.request).demand_count ≤ length c.args.blockers.now = room_enough (view c.args.request) c.args.order.now (rooms_of) (tested) (length c.args.blockers.now) (Memᴰ.tail (Memᴰ.head refl)) in
-    let starts-room : (view c.args.request).demand_count ≤ length c.args.starts.now = room_enough (view c.args.request) c.args.order.now (rooms_of) (tested) (length c.args.starts.now) (Memᴰ.head refl) in
+    let blockers_room : (view c.args.request).demand_count ≤ length c.args.blockers.now = room_enough (view c.args.request) c.args.order.now (rooms_of) (tested) (length c.args.blockers.now) (Memᴰ.tail (Memᴰ.head refl)) in
+    let starts_room : (view c.args.request).demand_count ≤ length c.args.starts.now = room_enough (view c.args.request) c.args.order.now (rooms_of) (tested) (length c.args.starts.now) (Memᴰ.head refl) in
     let v = view c.args.request in
     let order = c.args.order.now in
     let end = c.in-Placed.end in
@@ -106,10 +106,10 @@ returns-in-Placed c =
     let (rows, all) = end_placed v (fitted v order) end answer in record {
       reply = answer ∙ sym (fitted_answers v order (rooms_of) (tested));
       starts = c.write_front.ensures
-          ∙ starts_fitted v (fitted v order) rows _ _ (limits).most_demands all kept c.args.starts.now (starts-room)
+          ∙ starts_fitted v (fitted v order) rows _ _ (limits).most_demands all kept c.args.starts.now (starts_room)
           ∙ sym (fitted_writes v order (rooms_of) (tested) c.args.starts.now);
       blockers = c.write_front-in-Placed.ensures
-          ∙ blockers_fitted v (fitted v order) rows _ _ (limits).most_demands all kept c.args.blockers.now (blockers-room)
+          ∙ blockers_fitted v (fitted v order) rows _ _ (limits).most_demands all kept c.args.blockers.now (blockers_room)
           ∙ sym (fitted_names v order (rooms_of) (tested) c.args.blockers.now);
     }
 

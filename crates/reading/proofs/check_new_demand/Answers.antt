@@ -25,9 +25,9 @@ pub returns-then-not-tests : goal.returns-then-not-tests
 unfolding view_demand demand_tests
 returns-then-not-tests c =
     let tests = c.test_demand-tests in
-    let ident = ap (λ (t : DemandTests). t.used) (sym tests.ensures) ∙ c.if-tests.false in
+    let fresh = ap (λ (t : DemandTests). t.used) (sym tests.ensures) ∙ c.if-tests.false in
     let rate = ap (λ (t : DemandTests). t.rate) (sym tests.ensures) ∙ not-true tests.result.rate c.if-not-tests.true in
-    demand_unknown c.args.slots (take c.args.link_count c.args.links) c.args.earlier.now c.args.at (view_demand c.args.demand) (omega arith) ident rate
+    demand_unknown c.args.slots (take c.args.link_count c.args.links) c.args.earlier.now c.args.at (view_demand c.args.demand) (omega arith) fresh rate
 
 pub returns-then-not-tests-2 : goal.returns-then-not-tests-2
 unfolding view_demand demand_tests

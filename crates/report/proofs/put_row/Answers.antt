@@ -24,9 +24,9 @@ overflow_cast-centre c =
     let f = c.in-Centred.centre in
     let centred = sym c.to_frequency.ensures ∙ c.in-Centred.is in
     let small = frequency_small a.band a.start w f centred (omega arith) (omega arith) (omega arith) in
-    let n-fits : SFits w32 f.n = record { sfits = omega arith } in
-    let mhz-fits : SFits w64 f.mhz = record { sfits = omega arith } in
-    rw (to_z-of_z n-fits) (record { sfits = omega arith })
+    let n_fits : SFits w32 f.n = record { sfits = omega arith } in
+    let mhz_fits : SFits w64 f.mhz = record { sfits = omega arith } in
+    rw (to_z-of_z n_fits) (record { sfits = omega arith })
 
 pub put_row_line-requires : goal.put_row_line-requires
 put_row_line-requires c =
@@ -36,9 +36,9 @@ put_row_line-requires c =
     let f = c.in-Centred.centre in
     let centred = sym c.to_frequency.ensures ∙ c.in-Centred.is in
     let small = frequency_small a.band a.start w f centred (omega arith) (omega arith) (omega arith) in
-    let n-fits : SFits w32 f.n = record { sfits = omega arith } in
-    let mhz-fits : SFits w64 f.mhz = record { sfits = omega arith } in
-    rw (widened w32 w64 f.n tt n-fits, to_z-of_z mhz-fits) record { len_bound = omega arith; end_bound = (omega arith, small.0, small.1) }
+    let n_fits : SFits w32 f.n = record { sfits = omega arith } in
+    let mhz_fits : SFits w64 f.mhz = record { sfits = omega arith } in
+    rw (widened w32 w64 f.n tt n_fits, to_z-of_z mhz_fits) record { len_bound = omega arith; end_bound = (omega arith, small.0, small.1) }
 
 pub returns-in-Centred : goal.returns-in-Centred
 unfolding view_demand
@@ -51,10 +51,10 @@ returns-in-Centred c =
     let f = c.in-Centred.centre in
     let centred = sym c.to_frequency.ensures ∙ c.in-Centred.is in
     let small = frequency_small a.band a.start w f centred (omega arith) (omega arith) (omega arith) in
-    let n-fits : SFits w32 f.n = record { sfits = omega arith } in
-    let mhz-fits : SFits w64 f.mhz = record { sfits = omega arith } in
+    let n_fits : SFits w32 f.n = record { sfits = omega arith } in
+    let mhz_fits : SFits w64 f.mhz = record { sfits = omega arith } in
     let row = row_centred a.band (view_demand a.demand) a.start f (ap (frequency_reply a.band a.start) (sym is) ∙ centred) in
-    let put = rw (widened w32 w64 f.n tt n-fits, to_z-of_z mhz-fits) at c.put_row_line.ensures in
+    let put = rw (widened w32 w64 f.n tt n_fits, to_z-of_z mhz_fits) at c.put_row_line.ensures in
     let line = row_line a.demand.ident a.start (a.start + w) f.n f.mhz in record {
       value = put ∙ ap (λ (n : ℕ). appended a.page (row_line a.demand.ident a.start (a.start + n) f.n f.mhz)) is ∙ ap (appended a.page) (sym row);
       len_bound = omega (

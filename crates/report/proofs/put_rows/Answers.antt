@@ -37,10 +37,10 @@ pub loop-k-preserved : goal.loop-k-preserved
 loop-k-preserved c =
     let met = c.loop-k in
     let starts : ◌≡◌ {A = ℕ} (length c.args.starts) 20 = search rules in
-    let whole-request = whole c.args.request _ c.well_formed.1.0 in (
+    let whole_request = whole c.args.request _ c.well_formed.1.0 in (
       omega arith,
       omega arith,
-      row_on c.args.request c.args.starts met.k met.next whole-request.all_demands starts c.requires.demand_count_bound (omega arith) c.put_row-next.ensures.value
+      row_on c.args.request c.args.starts met.k met.next whole_request.all_demands starts c.requires.demand_count_bound (omega arith) c.put_row-next.ensures.value
           ∙ met.invariant.2,
     )
 

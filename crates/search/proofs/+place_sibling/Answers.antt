@@ -10,16 +10,16 @@ use Rattle.search.specs.TriesLaws.{tried_none}
 use Rattle.search.proofs.+place_sibling.Goals as goal
 
 -- one demand fewer is unplaced
-level-falls : (K n t : ℕ) → K ≤ 20 → n + 1 < K → (K - n) * 64 ≡ t → (K - (n + 1)) * 64 + (K - (n + 1)) + 1 < t
-level-falls K n t few more is = omega arith
+level_falls : (K n t : ℕ) → K ≤ 20 → n + 1 < K → (K - n) * 64 ≡ t → (K - (n + 1)) * 64 + (K - (n + 1)) + 1 < t
+level_falls K n t few more is = omega arith
 
 -- one sibling fewer is left
-sibling-falls : (K n p t : ℕ) → p < K → (K - n) * 64 + (K - p) + 1 ≡ t → (K - n) * 64 + (K - (p + 1)) + 1 < t
-sibling-falls K n p t more is = omega arith
+sibling_falls : (K n p t : ℕ) → p < K → (K - n) * 64 + (K - p) + 1 ≡ t → (K - n) * 64 + (K - (p + 1)) + 1 < t
+sibling_falls K n p t more is = omega arith
 
 -- the demand tried is put down
-place-falls : (K n p t : ℕ) → (K - n) * 64 + (K - p) + 1 ≡ t → (K - n) * 64 < t
-place-falls K n p t is = omega arith
+place_falls : (K n p t : ℕ) → (K - n) * 64 + (K - p) + 1 ≡ t → (K - n) * 64 < t
+place_falls K n p t is = omega arith
 
 -- a demand is left
 some_left : (K n : ℕ) → n < K → (K - (n + 1) ≡ 0 → ⊥) → n + 1 < K
@@ -30,8 +30,8 @@ next_place : (n p K : ℕ) → n ≤ p → p < K → n < K → (n ≤ p + 1) × 
 next_place n p K h k l = (omega arith, omega arith, l)
 
 -- an end below the mark lies within the band
-below-mark : (e mark : ℕ) → e < mark → mark ≤ 385 → e ≤ 384
-below-mark e mark h k = omega arith
+below_mark : (e mark : ℕ) → e < mark → mark ≤ 385 → e ≤ 384
+below_mark e mark h k = omega arith
 
 -- the numbers of the demand put down are small
 pub place-overflow_add-ends : goal.place-overflow_add-ends
@@ -64,7 +64,7 @@ place-sibling-requires t c =
     let r = c.requires in
     let low_top : problem.top (problem_of a.table a.widths.now a.guard) (problem.place (problem_of a.table a.widths.now a.guard) (rows_of a.low.now a.order.now a.placed) (get_or a.order.now a.at 0)) ≤ 384 = subst (λ (m : ℕ). m ≤ 384) r.end_bound.1 r.end_bound.0 in
     let rows_down = down_rows a.table a.widths.now a.guard a.count a.order.now a.low.now a.past.now a.placed a.at c.bring.new.order c.mend.new.low r.ready r.placed_le_at.0 r.placed_le_at.1 c.bring.ensures low_top c.mend.ensures in (
-      level-falls a.count a.placed t r.ready.sized.few r.placed_le_at.2 c.decreases,
+      level_falls a.count a.placed t r.ready.sized.few r.placed_le_at.2 c.decreases,
       (
         down_ready a.table a.widths.now a.guard a.count a.order.now a.low.now a.past.now a.placed a.at c.bring.new.order c.mend.new.low r.ready r.placed_le_at.0 r.placed_le_at.1 c.bring.ensures low_top c.mend.ensures,
         (
@@ -142,7 +142,7 @@ sibling-sibling-requires t c =
     let there : a.at < a.count = lt_of_le-ne r.placed_le_at.1 c.if-at-count.false in
     let room : Counting (set a.tally.now 0 (get_or a.tally.now 0 0 + 1)) ((orders.factorial (a.count - (a.placed + 1))) + ((a.count - (a.at + 1)) * (orders.factorial (a.count - (a.placed + 1))))) = counting_tried a.tally.now a.count a.placed a.at there r.counting in
     let f_room : Counting (set a.tally.now 0 (get_or a.tally.now 0 0 + 1)) (c.factorial.result + ((a.count - (a.at + 1)) * (orders.factorial (a.count - (a.placed + 1))))) = subst (λ (m : ℕ). Counting (set a.tally.now 0 (get_or a.tally.now 0 0 + 1)) (m + ((a.count - (a.at + 1)) * (orders.factorial (a.count - (a.placed + 1)))))) (sym c.factorial.ensures) room in (
-      sibling-falls a.count a.placed a.at t there c.decreases,
+      sibling_falls a.count a.placed a.at t there c.decreases,
       (
         r.ready,
         (
@@ -173,13 +173,13 @@ sibling-place-requires t c =
     let room : Counting (set a.tally.now 0 (get_or a.tally.now 0 0 + 1)) ((orders.factorial (a.count - (a.placed + 1))) + ((a.count - (a.at + 1)) * (orders.factorial (a.count - (a.placed + 1))))) = counting_tried a.tally.now a.count a.placed a.at there r.counting in
     let more = some_left a.count a.placed r.placed_le_at.2 c.if-left-eq0.false in
     let end_is : c.higher-end.result ≡ problem.top (problem_of a.table.now a.widths.now a.guard) (problem.place (problem_of a.table.now a.widths.now a.guard) (rows_of a.low.now a.order.now a.placed) (get_or a.order.now a.at 0)) = c.higher-end.ensures ∙ step_end a.table.now a.widths.now a.guard a.count a.order.now a.low.now a.past.now a.placed a.at a.top r.ready r.placed_le_at.0 there r.top_value in (
-      place-falls a.count a.placed a.at t c.decreases,
+      place_falls a.count a.placed a.at t c.decreases,
       (
         r.ready,
         (
           (r.placed_le_at.0, there, more),
           (
-            (below-mark c.higher-end.result (get_or (set a.tally.now 0 (get_or a.tally.now 0 0 + 1)) 3 0) c.if-mark-end.false room.low_mark, end_is),
+            (below_mark c.higher-end.result (get_or (set a.tally.now 0 (get_or a.tally.now 0 0 + 1)) 3 0) c.if-mark-end.false room.low_mark, end_is),
             (counting_here (set a.tally.now 0 (get_or a.tally.now 0 0 + 1)) (orders.factorial (a.count - (a.placed + 1))) ((a.count - (a.at + 1)) * (orders.factorial (a.count - (a.placed + 1)))) room),
           ),
         ),
@@ -192,7 +192,7 @@ sibling-sibling-requires-then-tally-eq0 t c =
     let r = c.requires in
     let there : a.at < a.count = lt_of_le-ne r.placed_le_at.1 c.if-at-count.false in
     let room : Counting (set a.tally.now 0 (get_or a.tally.now 0 0 + 1)) ((orders.factorial (a.count - (a.placed + 1))) + ((a.count - (a.at + 1)) * (orders.factorial (a.count - (a.placed + 1))))) = counting_tried a.tally.now a.count a.placed a.at there r.counting in (
-      sibling-falls a.count a.placed a.at t there c.decreases,
+      sibling_falls a.count a.placed a.at t there c.decreases,
       (
         r.ready,
         (

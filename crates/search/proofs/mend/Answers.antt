@@ -22,8 +22,8 @@ bounds-order-p c = omega (arith, c.requires.sized.few)
 
 pub overflow_cast-j : goal.overflow_cast-j
 overflow_cast-j c =
-    let inside-20 : (p : ℕ) → p < c.args.count → get_or c.args.order.now p 0 < 20 = λ p h. omega (arith, c.requires.sized.few, c.requires.listed.inside p h) in
-    let h = inside-20 c.loop-p.p c.loop-p-test.true in omega arith
+    let inside_20 : (p : ℕ) → p < c.args.count → get_or c.args.order.now p 0 < 20 = λ p h. omega (arith, c.requires.sized.few, c.requires.listed.inside p h) in
+    let h = inside_20 c.loop-p.p c.loop-p-test.true in omega arith
 
 pub mended-start-requires : goal.mended-start-requires
 mended-start-requires c =
@@ -32,13 +32,13 @@ mended-start-requires c =
 
 pub offset_bounds-low-j : goal.offset_bounds-low-j
 offset_bounds-low-j c =
-    let inside-20 : (p : ℕ) → p < c.args.count → get_or c.args.order.now p 0 < 20 = λ p h. omega (arith, c.requires.sized.few, c.requires.listed.inside p h) in
-    let h = inside-20 c.loop-p.p c.loop-p-test.true in omega arith
+    let inside_20 : (p : ℕ) → p < c.args.count → get_or c.args.order.now p 0 < 20 = λ p h. omega (arith, c.requires.sized.few, c.requires.listed.inside p h) in
+    let h = inside_20 c.loop-p.p c.loop-p-test.true in omega arith
 
 pub bounds-low-j : goal.bounds-low-j
 bounds-low-j c =
-    let inside-20 : (p : ℕ) → p < c.args.count → get_or c.args.order.now p 0 < 20 = λ p h. omega (arith, c.requires.sized.few, c.requires.listed.inside p h) in
-    let h = inside-20 c.loop-p.p c.loop-p-test.true in omega arith
+    let inside_20 : (p : ℕ) → p < c.args.count → get_or c.args.order.now p 0 < 20 = λ p h. omega (arith, c.requires.sized.few, c.requires.listed.inside p h) in
+    let h = inside_20 c.loop-p.p c.loop-p-test.true in omega arith
 
 pub overflow_add-p-in-loop-p : goal.overflow_add-p-in-loop-p
 overflow_add-p-in-loop-p c = omega (arith, c.requires.sized.few)

@@ -6,33 +6,33 @@ use Rattle.search.proofs.mended.Goals as goal
 
 pub overflow_cast-i : goal.overflow_cast-i
 overflow_cast-i c =
-    let inside-20 : (get_or c.args.order.now c.args.placed 0 < 20) × (get_or c.args.order.now c.args.at 0 < 20) = let m = c.requires.mendable in (omega (arith, m.sized.few, m.listed.inside c.args.placed (omega arith)), omega (arith, m.sized.few, m.listed.inside c.args.at (omega arith))) in
-    let h = inside-20 in omega arith
+    let inside_20 : (get_or c.args.order.now c.args.placed 0 < 20) × (get_or c.args.order.now c.args.at 0 < 20) = let m = c.requires.mendable in (omega (arith, m.sized.few, m.listed.inside c.args.placed (omega arith)), omega (arith, m.sized.few, m.listed.inside c.args.at (omega arith))) in
+    let h = inside_20 in omega arith
 
 pub overflow_cast-j : goal.overflow_cast-j
 overflow_cast-j c =
-    let inside-20 : (get_or c.args.order.now c.args.placed 0 < 20) × (get_or c.args.order.now c.args.at 0 < 20) = let m = c.requires.mendable in (omega (arith, m.sized.few, m.listed.inside c.args.placed (omega arith)), omega (arith, m.sized.few, m.listed.inside c.args.at (omega arith))) in
-    let h = inside-20 in omega arith
+    let inside_20 : (get_or c.args.order.now c.args.placed 0 < 20) × (get_or c.args.order.now c.args.at 0 < 20) = let m = c.requires.mendable in (omega (arith, m.sized.few, m.listed.inside c.args.placed (omega arith)), omega (arith, m.sized.few, m.listed.inside c.args.at (omega arith))) in
+    let h = inside_20 in omega arith
 
 pub offset_bounds-low-j : goal.offset_bounds-low-j
 offset_bounds-low-j c =
-    let inside-20 : (get_or c.args.order.now c.args.placed 0 < 20) × (get_or c.args.order.now c.args.at 0 < 20) = let m = c.requires.mendable in (omega (arith, m.sized.few, m.listed.inside c.args.placed (omega arith)), omega (arith, m.sized.few, m.listed.inside c.args.at (omega arith))) in
-    let h = inside-20 in omega arith
+    let inside_20 : (get_or c.args.order.now c.args.placed 0 < 20) × (get_or c.args.order.now c.args.at 0 < 20) = let m = c.requires.mendable in (omega (arith, m.sized.few, m.listed.inside c.args.placed (omega arith)), omega (arith, m.sized.few, m.listed.inside c.args.at (omega arith))) in
+    let h = inside_20 in omega arith
 
 pub bounds-low-j : goal.bounds-low-j
 bounds-low-j c =
-    let inside-20 : (get_or c.args.order.now c.args.placed 0 < 20) × (get_or c.args.order.now c.args.at 0 < 20) = let m = c.requires.mendable in (omega (arith, m.sized.few, m.listed.inside c.args.placed (omega arith)), omega (arith, m.sized.few, m.listed.inside c.args.at (omega arith))) in
-    let h = inside-20 in omega arith
+    let inside_20 : (get_or c.args.order.now c.args.placed 0 < 20) × (get_or c.args.order.now c.args.at 0 < 20) = let m = c.requires.mendable in (omega (arith, m.sized.few, m.listed.inside c.args.placed (omega arith)), omega (arith, m.sized.few, m.listed.inside c.args.at (omega arith))) in
+    let h = inside_20 in omega arith
 
 pub offset_bounds-widths-j : goal.offset_bounds-widths-j
 offset_bounds-widths-j c =
-    let inside-20 : (get_or c.args.order.now c.args.placed 0 < 20) × (get_or c.args.order.now c.args.at 0 < 20) = let m = c.requires.mendable in (omega (arith, m.sized.few, m.listed.inside c.args.placed (omega arith)), omega (arith, m.sized.few, m.listed.inside c.args.at (omega arith))) in
-    let h = inside-20 in omega arith
+    let inside_20 : (get_or c.args.order.now c.args.placed 0 < 20) × (get_or c.args.order.now c.args.at 0 < 20) = let m = c.requires.mendable in (omega (arith, m.sized.few, m.listed.inside c.args.placed (omega arith)), omega (arith, m.sized.few, m.listed.inside c.args.at (omega arith))) in
+    let h = inside_20 in omega arith
 
 pub bounds-widths-j : goal.bounds-widths-j
 bounds-widths-j c =
-    let inside-20 : (get_or c.args.order.now c.args.placed 0 < 20) × (get_or c.args.order.now c.args.at 0 < 20) = let m = c.requires.mendable in (omega (arith, m.sized.few, m.listed.inside c.args.placed (omega arith)), omega (arith, m.sized.few, m.listed.inside c.args.at (omega arith))) in
-    let h = inside-20 in omega arith
+    let inside_20 : (get_or c.args.order.now c.args.placed 0 < 20) × (get_or c.args.order.now c.args.at 0 < 20) = let m = c.requires.mendable in (omega (arith, m.sized.few, m.listed.inside c.args.placed (omega arith)), omega (arith, m.sized.few, m.listed.inside c.args.at (omega arith))) in
+    let h = inside_20 in omega arith
 
 pub overflow_add-span : goal.overflow_add-span
 overflow_add-span c =
@@ -41,18 +41,18 @@ overflow_add-span c =
 
 pub offset_bounds-table-i : goal.offset_bounds-table-i
 offset_bounds-table-i c =
-    let inside-20 : (get_or c.args.order.now c.args.placed 0 < 20) × (get_or c.args.order.now c.args.at 0 < 20) = let m = c.requires.mendable in (omega (arith, m.sized.few, m.listed.inside c.args.placed (omega arith)), omega (arith, m.sized.few, m.listed.inside c.args.at (omega arith))) in
-    let h = inside-20 in omega arith
+    let inside_20 : (get_or c.args.order.now c.args.placed 0 < 20) × (get_or c.args.order.now c.args.at 0 < 20) = let m = c.requires.mendable in (omega (arith, m.sized.few, m.listed.inside c.args.placed (omega arith)), omega (arith, m.sized.few, m.listed.inside c.args.at (omega arith))) in
+    let h = inside_20 in omega arith
 
 pub bounds-table-i : goal.bounds-table-i
 bounds-table-i c =
-    let inside-20 : (get_or c.args.order.now c.args.placed 0 < 20) × (get_or c.args.order.now c.args.at 0 < 20) = let m = c.requires.mendable in (omega (arith, m.sized.few, m.listed.inside c.args.placed (omega arith)), omega (arith, m.sized.few, m.listed.inside c.args.at (omega arith))) in
-    let h = inside-20 in omega arith
+    let inside_20 : (get_or c.args.order.now c.args.placed 0 < 20) × (get_or c.args.order.now c.args.at 0 < 20) = let m = c.requires.mendable in (omega (arith, m.sized.few, m.listed.inside c.args.placed (omega arith)), omega (arith, m.sized.few, m.listed.inside c.args.at (omega arith))) in
+    let h = inside_20 in omega arith
 
 pub bounds-table-j : goal.bounds-table-j
 bounds-table-j c =
-    let inside-20 : (get_or c.args.order.now c.args.placed 0 < 20) × (get_or c.args.order.now c.args.at 0 < 20) = let m = c.requires.mendable in (omega (arith, m.sized.few, m.listed.inside c.args.placed (omega arith)), omega (arith, m.sized.few, m.listed.inside c.args.at (omega arith))) in
-    let h = inside-20 in omega arith
+    let inside_20 : (get_or c.args.order.now c.args.placed 0 < 20) × (get_or c.args.order.now c.args.at 0 < 20) = let m = c.requires.mendable in (omega (arith, m.sized.few, m.listed.inside c.args.placed (omega arith)), omega (arith, m.sized.few, m.listed.inside c.args.at (omega arith))) in
+    let h = inside_20 in omega arith
 
 pub returns-then-not-table-i : goal.returns-then-not-table-i
 returns-then-not-table-i c =
@@ -62,13 +62,13 @@ returns-then-not-table-i c =
 
 pub offset_bounds-past-i : goal.offset_bounds-past-i
 offset_bounds-past-i c =
-    let inside-20 : (get_or c.args.order.now c.args.placed 0 < 20) × (get_or c.args.order.now c.args.at 0 < 20) = let m = c.requires.mendable in (omega (arith, m.sized.few, m.listed.inside c.args.placed (omega arith)), omega (arith, m.sized.few, m.listed.inside c.args.at (omega arith))) in
-    let h = inside-20 in omega arith
+    let inside_20 : (get_or c.args.order.now c.args.placed 0 < 20) × (get_or c.args.order.now c.args.at 0 < 20) = let m = c.requires.mendable in (omega (arith, m.sized.few, m.listed.inside c.args.placed (omega arith)), omega (arith, m.sized.few, m.listed.inside c.args.at (omega arith))) in
+    let h = inside_20 in omega arith
 
 pub bounds-past-i : goal.bounds-past-i
 bounds-past-i c =
-    let inside-20 : (get_or c.args.order.now c.args.placed 0 < 20) × (get_or c.args.order.now c.args.at 0 < 20) = let m = c.requires.mendable in (omega (arith, m.sized.few, m.listed.inside c.args.placed (omega arith)), omega (arith, m.sized.few, m.listed.inside c.args.at (omega arith))) in
-    let h = inside-20 in omega arith
+    let inside_20 : (get_or c.args.order.now c.args.placed 0 < 20) × (get_or c.args.order.now c.args.at 0 < 20) = let m = c.requires.mendable in (omega (arith, m.sized.few, m.listed.inside c.args.placed (omega arith)), omega (arith, m.sized.few, m.listed.inside c.args.at (omega arith))) in
+    let h = inside_20 in omega arith
 
 pub returns-then-past-i : goal.returns-then-past-i
 returns-then-past-i c =
@@ -83,13 +83,13 @@ overflow_add-start c =
 
 pub offset_bounds-low-i : goal.offset_bounds-low-i
 offset_bounds-low-i c =
-    let inside-20 : (get_or c.args.order.now c.args.placed 0 < 20) × (get_or c.args.order.now c.args.at 0 < 20) = let m = c.requires.mendable in (omega (arith, m.sized.few, m.listed.inside c.args.placed (omega arith)), omega (arith, m.sized.few, m.listed.inside c.args.at (omega arith))) in
-    let h = inside-20 in omega arith
+    let inside_20 : (get_or c.args.order.now c.args.placed 0 < 20) × (get_or c.args.order.now c.args.at 0 < 20) = let m = c.requires.mendable in (omega (arith, m.sized.few, m.listed.inside c.args.placed (omega arith)), omega (arith, m.sized.few, m.listed.inside c.args.at (omega arith))) in
+    let h = inside_20 in omega arith
 
 pub bounds-low-i : goal.bounds-low-i
 bounds-low-i c =
-    let inside-20 : (get_or c.args.order.now c.args.placed 0 < 20) × (get_or c.args.order.now c.args.at 0 < 20) = let m = c.requires.mendable in (omega (arith, m.sized.few, m.listed.inside c.args.placed (omega arith)), omega (arith, m.sized.few, m.listed.inside c.args.at (omega arith))) in
-    let h = inside-20 in omega arith
+    let inside_20 : (get_or c.args.order.now c.args.placed 0 < 20) × (get_or c.args.order.now c.args.at 0 < 20) = let m = c.requires.mendable in (omega (arith, m.sized.few, m.listed.inside c.args.placed (omega arith)), omega (arith, m.sized.few, m.listed.inside c.args.at (omega arith))) in
+    let h = inside_20 in omega arith
 
 pub returns-then-start-span : goal.returns-then-start-span
 returns-then-start-span c =
@@ -99,23 +99,23 @@ returns-then-start-span c =
 
 pub offset_bounds-table-j : goal.offset_bounds-table-j
 offset_bounds-table-j c =
-    let inside-20 : (get_or c.args.order.now c.args.placed 0 < 20) × (get_or c.args.order.now c.args.at 0 < 20) = let m = c.requires.mendable in (omega (arith, m.sized.few, m.listed.inside c.args.placed (omega arith)), omega (arith, m.sized.few, m.listed.inside c.args.at (omega arith))) in
-    let h = inside-20 in omega arith
+    let inside_20 : (get_or c.args.order.now c.args.placed 0 < 20) × (get_or c.args.order.now c.args.at 0 < 20) = let m = c.requires.mendable in (omega (arith, m.sized.few, m.listed.inside c.args.placed (omega arith)), omega (arith, m.sized.few, m.listed.inside c.args.at (omega arith))) in
+    let h = inside_20 in omega arith
 
 pub bounds-table-j-2 : goal.bounds-table-j-2
 bounds-table-j-2 c =
-    let inside-20 : (get_or c.args.order.now c.args.placed 0 < 20) × (get_or c.args.order.now c.args.at 0 < 20) = let m = c.requires.mendable in (omega (arith, m.sized.few, m.listed.inside c.args.placed (omega arith)), omega (arith, m.sized.few, m.listed.inside c.args.at (omega arith))) in
-    let h = inside-20 in omega arith
+    let inside_20 : (get_or c.args.order.now c.args.placed 0 < 20) × (get_or c.args.order.now c.args.at 0 < 20) = let m = c.requires.mendable in (omega (arith, m.sized.few, m.listed.inside c.args.placed (omega arith)), omega (arith, m.sized.few, m.listed.inside c.args.at (omega arith))) in
+    let h = inside_20 in omega arith
 
 pub offset_bounds-past-i-2 : goal.offset_bounds-past-i-2
 offset_bounds-past-i-2 c =
-    let inside-20 : (get_or c.args.order.now c.args.placed 0 < 20) × (get_or c.args.order.now c.args.at 0 < 20) = let m = c.requires.mendable in (omega (arith, m.sized.few, m.listed.inside c.args.placed (omega arith)), omega (arith, m.sized.few, m.listed.inside c.args.at (omega arith))) in
-    let h = inside-20 in omega arith
+    let inside_20 : (get_or c.args.order.now c.args.placed 0 < 20) × (get_or c.args.order.now c.args.at 0 < 20) = let m = c.requires.mendable in (omega (arith, m.sized.few, m.listed.inside c.args.placed (omega arith)), omega (arith, m.sized.few, m.listed.inside c.args.at (omega arith))) in
+    let h = inside_20 in omega arith
 
 pub bounds-past-i-2 : goal.bounds-past-i-2
 bounds-past-i-2 c =
-    let inside-20 : (get_or c.args.order.now c.args.placed 0 < 20) × (get_or c.args.order.now c.args.at 0 < 20) = let m = c.requires.mendable in (omega (arith, m.sized.few, m.listed.inside c.args.placed (omega arith)), omega (arith, m.sized.few, m.listed.inside c.args.at (omega arith))) in
-    let h = inside-20 in omega arith
+    let inside_20 : (get_or c.args.order.now c.args.placed 0 < 20) × (get_or c.args.order.now c.args.at 0 < 20) = let m = c.requires.mendable in (omega (arith, m.sized.few, m.listed.inside c.args.placed (omega arith)), omega (arith, m.sized.few, m.listed.inside c.args.at (omega arith))) in
+    let h = inside_20 in omega arith
 
 pub scan-requires : goal.scan-requires
 scan-requires c =

@@ -15,19 +15,19 @@ bounds-weights-i c = omega (arith, c.requires.1, c.requires.2)
 
 pub overflow_cast-pair : goal.overflow_cast-pair
 overflow_cast-pair c =
-    let weight-i : get_or c.args.weights.now c.args.i 0 ≤ 255 = omega (arith, c.shared_slice_known-3-1.given c.args.i) in
-    omega (arith, weight-i)
+    let weight_i : get_or c.args.weights.now c.args.i 0 ≤ 255 = omega (arith, c.shared_slice_known-3-1.given c.args.i) in
+    omega (arith, weight_i)
 
 pub overflow_cast-pair-2 : goal.overflow_cast-pair-2
 overflow_cast-pair-2 c =
-    let weight-j : get_or c.args.weights.now c.args.j 0 ≤ 255 = omega (arith, c.shared_slice_known-3-1.given c.args.j) in
-    omega (arith, weight-j)
+    let weight_j : get_or c.args.weights.now c.args.j 0 ≤ 255 = omega (arith, c.shared_slice_known-3-1.given c.args.j) in
+    omega (arith, weight_j)
 
 pub overflow_add-pair : goal.overflow_add-pair
 overflow_add-pair c =
-    let weight-i : get_or c.args.weights.now c.args.i 0 ≤ 255 = omega (arith, c.shared_slice_known-3-1.given c.args.i) in
-    let weight-j : get_or c.args.weights.now c.args.j 0 ≤ 255 = omega (arith, c.shared_slice_known-3-1.given c.args.j) in
-    omega (arith, weight-i, weight-j)
+    let weight_i : get_or c.args.weights.now c.args.i 0 ≤ 255 = omega (arith, c.shared_slice_known-3-1.given c.args.i) in
+    let weight_j : get_or c.args.weights.now c.args.j 0 ≤ 255 = omega (arith, c.shared_slice_known-3-1.given c.args.j) in
+    omega (arith, weight_i, weight_j)
 
 pub offset_bounds-words-i : goal.offset_bounds-words-i
 offset_bounds-words-i c = omega (arith, c.requires.0, c.requires.1, c.requires.2)
@@ -64,8 +64,8 @@ returns-then-a-pair c =
 
 pub heavy_third-requires : goal.heavy_third-requires
 heavy_third-requires c =
-    let weight-i : get_or c.args.weights.now c.args.i 0 ≤ 255 = omega (arith, c.shared_slice_known-3-1.given c.args.i) in
-    let weight-j : get_or c.args.weights.now c.args.j 0 ≤ 255 = omega (arith, c.shared_slice_known-3-1.given c.args.j) in record { weights_len_bound = c.requires; pair_value = (refl, omega (arith, weight-i, weight-j)) }
+    let weight_i : get_or c.args.weights.now c.args.i 0 ≤ 255 = omega (arith, c.shared_slice_known-3-1.given c.args.i) in
+    let weight_j : get_or c.args.weights.now c.args.j 0 ≤ 255 = omega (arith, c.shared_slice_known-3-1.given c.args.j) in record { weights_len_bound = c.requires; pair_value = (refl, omega (arith, weight_i, weight_j)) }
 
 pub returns : goal.returns
 unfolding sharing_in

@@ -67,9 +67,9 @@ bounds-starts-i c =
 
 pub overflow_add-ends : goal.overflow_add-ends
 overflow_add-ends c =
-    let ends-within : c.in-At.start + get_or c.args.widths.now c.loop-i.i 0 ≤ c.args.mark - 1 = let a = c.args in let at = c.loop-i in found_within _ at.starts at.ends a.count (get_or a.widths.now at.i 0) a.guard (a.mark - 1) c.in-At.start (sym c.in-At.is ∙ c.lowest_spot-spot.ensures) in
-    let ends-fit : c.in-At.start + get_or c.args.widths.now c.loop-i.i 0 ≤ 65535 = let h : c.args.mark < 2 ^ 16 = search rules in omega (arith, ends-within) in
-    omega (arith, ends-fit)
+    let ends_within : c.in-At.start + get_or c.args.widths.now c.loop-i.i 0 ≤ c.args.mark - 1 = let a = c.args in let at = c.loop-i in found_within _ at.starts at.ends a.count (get_or a.widths.now at.i 0) a.guard (a.mark - 1) c.in-At.start (sym c.in-At.is ∙ c.lowest_spot-spot.ensures) in
+    let ends_fit : c.in-At.start + get_or c.args.widths.now c.loop-i.i 0 ≤ 65535 = let h : c.args.mark < 2 ^ 16 = search rules in omega (arith, ends_within) in
+    omega (arith, ends_fit)
 
 pub offset_bounds-ends-i : goal.offset_bounds-ends-i
 offset_bounds-ends-i c =
@@ -83,9 +83,9 @@ bounds-ends-i c =
 
 pub overflow_add-start : goal.overflow_add-start
 overflow_add-start c =
-    let ends-within : c.in-At.start + get_or c.args.widths.now c.loop-i.i 0 ≤ c.args.mark - 1 = let a = c.args in let at = c.loop-i in found_within _ at.starts at.ends a.count (get_or a.widths.now at.i 0) a.guard (a.mark - 1) c.in-At.start (sym c.in-At.is ∙ c.lowest_spot-spot.ensures) in
-    let ends-fit : c.in-At.start + get_or c.args.widths.now c.loop-i.i 0 ≤ 65535 = let h : c.args.mark < 2 ^ 16 = search rules in omega (arith, ends-within) in
-    omega (arith, ends-fit)
+    let ends_within : c.in-At.start + get_or c.args.widths.now c.loop-i.i 0 ≤ c.args.mark - 1 = let a = c.args in let at = c.loop-i in found_within _ at.starts at.ends a.count (get_or a.widths.now at.i 0) a.guard (a.mark - 1) c.in-At.start (sym c.in-At.is ∙ c.lowest_spot-spot.ensures) in
+    let ends_fit : c.in-At.start + get_or c.args.widths.now c.loop-i.i 0 ≤ 65535 = let h : c.args.mark < 2 ^ 16 = search rules in omega (arith, ends_within) in
+    omega (arith, ends_fit)
 
 pub loop-i-smaller : goal.loop-i-smaller
 loop-i-smaller c = omega arith

@@ -10,9 +10,9 @@ pub returns-in-Centred : goal.returns-in-Centred
 unfolding frequency_told
 returns-in-Centred c =
     let centre = c.in-Centred.centre in
-    let n-fits : SFits w32 centre.n = search rules in
-    let mhz-fits : SFits w64 centre.mhz = search rules in
-    rw (to_z-of_z n-fits, to_z-of_z mhz-fits) (sym (ap frequency_told c.in-Centred.is))
+    let n_fits : SFits w32 centre.n = search rules in
+    let mhz_fits : SFits w64 centre.mhz = search rules in
+    rw (to_z-of_z n_fits, to_z-of_z mhz_fits) (sym (ap frequency_told c.in-Centred.is))
 
 pub returns-in-Refused : goal.returns-in-Refused
 unfolding frequency_told

@@ -62,8 +62,8 @@ pub overflow_add-demand_end : goal.overflow_add-demand_end
 unfolding problem_in
 overflow_add-demand_end c =
     let beside : c.place_beside-placement.result ≡ placed_beside (problem_in c.args.compact) (fill (problem_in c.args.compact) [] (take c.loop-k.k c.args.order.now)) (get_or c.args.order.now c.loop-k.k 0) c.args.compact.slots = let at = c.loop-k in let compact = c.args.compact in let full : ◌≡◌ {A = ℕ} (length c.args.compact.words) 200 = search rules in c.place_beside-placement.ensures ∙ beside_rows compact (fill (problem_in compact) [] (take at.k c.args.order.now)) at.at at.ends (get_or c.args.order.now at.k 0) c.requires.asked.small full at.invariant.1.standing in
-    let ends-inside : c.in-At.start + get_or c.args.compact.widths (get_or c.args.order.now c.loop-k.k 0) 0 ≤ 384 = let at = c.loop-k in omega (arith, c.requires.asked.small.most_slots, found_inside c.args.compact c.args.order.now at.k at.end at.at at.by at.ends c.loop-k-test.true c.requires.asked at.invariant.1 c.place_beside-placement.result (beside) _ c.entry-blocker.ensures c.in-At.start (sym c.in-At.is)) in
-    omega (arith, ends-inside)
+    let ends_inside : c.in-At.start + get_or c.args.compact.widths (get_or c.args.order.now c.loop-k.k 0) 0 ≤ 384 = let at = c.loop-k in omega (arith, c.requires.asked.small.most_slots, found_inside c.args.compact c.args.order.now at.k at.end at.at at.by at.ends c.loop-k-test.true c.requires.asked at.invariant.1 c.place_beside-placement.result (beside) _ c.entry-blocker.ensures c.in-At.start (sym c.in-At.is)) in
+    omega (arith, ends_inside)
 
 pub offset_bounds-at-i : goal.offset_bounds-at-i
 offset_bounds-at-i c =

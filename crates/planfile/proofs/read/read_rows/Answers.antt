@@ -66,9 +66,9 @@ returns-then-count-who c =
     let counted : request.demand_count ≡ length v.demands = omega arith in
     let who = c.position_of-who.result in
     let found = subst (λ (n : ℕ). who ≡ position_of c.number_in.result (take n c.idents_of-idents.result)) counted c.position_of-who.ensures in
-    let is-who = row_who v s at c.idents_of-idents.result c.number_in.result who c.idents_of-idents.ensures c.number_in.ensures found in
+    let is_who = row_who v s at c.idents_of-idents.result c.number_in.result who c.idents_of-idents.ensures c.number_in.ensures found in
     c.no_rows-then-count-who.ensures ∙ ap pack_rows (sym (so_far_refused v s at given starts c.requires.file_len_bound so_far (UnknownIdent at) more
-    (row_decides v s at rows field ∙ row_unknown v at rows (row_in v s at) (omega (arith, is-who, counted, c.if-count-who.true)))))
+    (row_decides v s at rows field ∙ row_unknown v at rows (row_in v s at) (omega (arith, is_who, counted, c.if-count-who.true)))))
 
 pub returns-then-given-who : goal.returns-then-given-who
 returns-then-given-who c =
@@ -87,10 +87,10 @@ returns-then-given-who c =
     let counted : request.demand_count ≡ length v.demands = omega arith in
     let who = c.position_of-who.result in
     let found = subst (λ (n : ℕ). who ≡ position_of c.number_in.result (take n c.idents_of-idents.result)) counted c.position_of-who.ensures in
-    let is-who = row_who v s at c.idents_of-idents.result c.number_in.result who c.idents_of-idents.ensures c.number_in.ensures found in
-    let seen = subst (λ (k : ℕ). given-in rows k ≡ true) (sym is-who) (given_at rows given who true so_far.given_held (omega arith) c.if-given-who.true) in
+    let is_who = row_who v s at c.idents_of-idents.result c.number_in.result who c.idents_of-idents.ensures c.number_in.ensures found in
+    let seen = subst (λ (k : ℕ). given-in rows k ≡ true) (sym is_who) (given_at rows given who true so_far.given_held (omega arith) c.if-given-who.true) in
     c.no_rows-then-given-who.ensures ∙ ap pack_rows (sym (so_far_refused v s at given starts c.requires.file_len_bound so_far (IdentSeen at) more
-    (row_decides v s at rows field ∙ row_seen v at rows (row_in v s at) (omega (arith, is-who, counted, c.if-count-who.false)) seen)))
+    (row_decides v s at rows field ∙ row_seen v at rows (row_in v s at) (omega (arith, is_who, counted, c.if-count-who.false)) seen)))
 
 pub overflow_add-at-in-loop-at : goal.overflow_add-at-in-loop-at
 overflow_add-at-in-loop-at c =
@@ -116,11 +116,11 @@ returns-then-not-end_within c =
     let counted : request.demand_count ≡ length v.demands = omega arith in
     let who = c.position_of-who.result in
     let found = subst (λ (n : ℕ). who ≡ position_of c.number_in.result (take n c.idents_of-idents.result)) counted c.position_of-who.ensures in
-    let is-who = row_who v s at c.idents_of-idents.result c.number_in.result who c.idents_of-idents.ensures c.number_in.ensures found in
-    let here : (row_in v s at).who < length v.demands = omega (arith, is-who, counted, c.if-count-who.false) in
-    let new = subst (λ (k : ℕ). given-in rows k ≡ false) (sym is-who) (given_at rows given who false so_far.given_held (omega arith) c.if-given-who.false) in
+    let is_who = row_who v s at c.idents_of-idents.result c.number_in.result who c.idents_of-idents.ensures c.number_in.ensures found in
+    let here : (row_in v s at).who < length v.demands = omega (arith, is_who, counted, c.if-count-who.false) in
+    let new = subst (λ (k : ℕ). given-in rows k ≡ false) (sym is_who) (given_at rows given who false so_far.given_held (omega arith) c.if-given-who.false) in
     let start = c.number_in-start.result in
-    let width = ap (λ (d : DemandView). width_of d) (ap (demand_at v.demands) is-who ∙ demand_shown request who (omega arith)) in
+    let width = ap (λ (d : DemandView). width_of d) (ap (demand_at v.demands) is_who ∙ demand_shown request who (omega arith)) in
     let end : request.band.slots < start + c.width_of-width.result = leb-false _ _ ((sym c.end_within.ensures ∙ c.if-not-end_within.true)) in
     c.no_rows-then-not-end_within.ensures ∙ ap pack_rows (sym (so_far_refused v s at given starts c.requires.file_len_bound so_far (EndAbove at) more
     (row_decides v s at rows field ∙ row_above v at rows (row_in v s at) here new (omega (arith, width, c.width_of-width.ensures, end, c.number_in-start.ensures)))))
@@ -155,16 +155,16 @@ loop-at-preserved c =
     let counted : request.demand_count ≡ length v.demands = omega arith in
     let who = c.position_of-who.result in
     let found = subst (λ (n : ℕ). who ≡ position_of c.number_in.result (take n c.idents_of-idents.result)) counted c.position_of-who.ensures in
-    let is-who = row_who v s at c.idents_of-idents.result c.number_in.result who c.idents_of-idents.ensures c.number_in.ensures found in
-    let here : (row_in v s at).who < length v.demands = omega (arith, is-who, counted, c.if-count-who.false) in
-    let new = subst (λ (k : ℕ). given-in rows k ≡ false) (sym is-who) (given_at rows given who false so_far.given_held (omega arith) c.if-given-who.false) in
+    let is_who = row_who v s at c.idents_of-idents.result c.number_in.result who c.idents_of-idents.ensures c.number_in.ensures found in
+    let here : (row_in v s at).who < length v.demands = omega (arith, is_who, counted, c.if-count-who.false) in
+    let new = subst (λ (k : ℕ). given-in rows k ≡ false) (sym is_who) (given_at rows given who false so_far.given_held (omega arith) c.if-given-who.false) in
     let start = c.number_in-start.result in
-    let width = ap (λ (d : DemandView). width_of d) (ap (demand_at v.demands) is-who ∙ demand_shown request who (omega arith)) in
+    let width = ap (λ (d : DemandView). width_of d) (ap (demand_at v.demands) is_who ∙ demand_shown request who (omega arith)) in
     let end : start + c.width_of-width.result ≤ request.band.slots = leb-true _ _ ((sym c.end_within.ensures ∙ c.if-not-end_within.false)) in
     let ends = row_end s at (field_holds s at 4 4 4 field) in
     let sound = row_decides v s at rows field ∙ row_sound v at rows (row_in v s at) here new (omega (arith, width, c.width_of-width.ensures, end, c.number_in-start.ensures)) in
     let next = so_far_more v s at given starts c.requires.file_len_bound so_far more sound ends.0 ends.1 (omega arith) in (
-      subst (λ (k : ℕ). RowsSoFar v s (at + 7) (set given k true) (set starts k start)) is-who
+      subst (λ (k : ℕ). RowsSoFar v s (at + 7) (set given k true) (set starts k start)) is_who
           (subst (λ (x : ℕ). RowsSoFar v s (at + 7) (set given (row_in v s at).who true) (set starts (row_in v s at).who x)) (sym c.number_in-start.ensures) next),
       simp length-set c.loop-at.invariant.1,
       simp length-set c.loop-at.invariant.2,

@@ -37,12 +37,12 @@ unfolding view encode_plan
 returns-in-Refused-enough c =
     let passed : check_starts (view c.args.request) c.args.starts.now ≡ Sound = starts_passed (view c.args.request) c.args.starts.now c.in_default.field-0 (sym c.check_starts-verdict.ensures ∙ c.in_default.is) in
     let limits : Limits (view c.args.request) = checked_limits c.args.request (whole c.args.request _ c.well_formed.0) (each_passed (view c.args.request) c.args.starts.now (passed)).0 in
-    let file-long : length (encode_plan (view c.args.request) c.args.starts.now) ≡ 7 * c.args.request.demand_count = rows_length c.args.starts.now 0 (view c.args.request).demands ∙ omega (arith, (limits).demands_there) in
+    let file_long : length (encode_plan (view c.args.request) c.args.starts.now) ≡ 7 * c.args.request.demand_count = rows_length c.args.starts.now 0 (view c.args.request).demands ∙ omega (arith, (limits).demands_there) in
     let v = view c.args.request in
     let starts = c.args.starts.now in
     let out = c.args.out.now in
     let why = c.in-Refused-enough.why in
-    let short = ap (λ (n : ℕ). check_room n (length out)) (file-long) ∙ (sym c.check_room-enough.ensures ∙ c.in-Refused-enough.is) in
+    let short = ap (λ (n : ℕ). check_room n (length out)) (file_long) ∙ (sym c.check_room-enough.ensures ∙ c.in-Refused-enough.is) in
     let refused = plan_short v starts out why (passed) short in record { value = sym refused; out_after = sym (out_unwritten v starts out why refused) }
 
 pub write_rows-requires : goal.write_rows-requires
@@ -60,10 +60,10 @@ unfolding view encode_plan
 returns c =
     let passed : check_starts (view c.args.request) c.args.starts.now ≡ Sound = starts_passed (view c.args.request) c.args.starts.now c.in_default.field-0 (sym c.check_starts-verdict.ensures ∙ c.in_default.is) in
     let limits : Limits (view c.args.request) = checked_limits c.args.request (whole c.args.request _ c.well_formed.0) (each_passed (view c.args.request) c.args.starts.now (passed)).0 in
-    let file-long : length (encode_plan (view c.args.request) c.args.starts.now) ≡ 7 * c.args.request.demand_count = rows_length c.args.starts.now 0 (view c.args.request).demands ∙ omega (arith, (limits).demands_there) in
+    let file_long : length (encode_plan (view c.args.request) c.args.starts.now) ≡ 7 * c.args.request.demand_count = rows_length c.args.starts.now 0 (view c.args.request).demands ∙ omega (arith, (limits).demands_there) in
     let v = view c.args.request in
     let starts = c.args.starts.now in
     let out = c.args.out.now in
     let enough = room_held _ (length out) (sym c.check_room-enough.ensures ∙ c.in_default-enough.is) in
-    let room : length (encode_plan v starts) ≤ length out = omega (arith, enough, file-long) in
-    let wrote = plan_wrote v starts out (passed) room in record { value = ap Wrote (sym (file-long)) ∙ sym wrote; out_after = c.write_rows.ensures ∙ (stored_front out (encode_plan v starts) room ∙ sym (out_wrote v starts out _ wrote)) }
+    let room : length (encode_plan v starts) ≤ length out = omega (arith, enough, file_long) in
+    let wrote = plan_wrote v starts out (passed) room in record { value = ap Wrote (sym (file_long)) ∙ sym wrote; out_after = c.write_rows.ensures ∙ (stored_front out (encode_plan v starts) room ∙ sym (out_wrote v starts out _ wrote)) }

@@ -22,9 +22,9 @@ returns-then-not-tests c =
     let tests = c.test_demand-tests in
     let links = take c.args.count c.args.links in
     let earlier = c.args.earlier.now in
-    let ident = ap (λ (t : DemandTests). t.used) (sym tests.ensures) ∙ c.if-tests.false in
+    let fresh = ap (λ (t : DemandTests). t.used) (sym tests.ensures) ∙ c.if-tests.false in
     let rate = ap (λ (t : DemandTests). t.rate) (sym tests.ensures) ∙ not-true tests.result.rate c.if-not-tests.true in
-    sym (rate_refused c.args.slots links earlier c.args.k (view_demand c.args.demand) ident rate)
+    sym (rate_refused c.args.slots links earlier c.args.k (view_demand c.args.demand) fresh rate)
 
 pub returns-then-not-tests-2 : goal.returns-then-not-tests-2
 unfolding view_demand demand_tests

@@ -133,8 +133,8 @@ returns c =
     let again : List ℕ = replicate 20 0 in
     let tests = sound in
     let some : is_met best ≡ true = sym found.plan_is ∙ c.if-not-plan.false in
-    let starts-front : length (take K result.starts) ≡ K = length-take-le K result.starts (omega (arith, few, found.starts_whole)) in
-    let order-front : length (take K result.order) ≡ K = length-take-le K result.order (omega (arith, few, found.order_whole)) in
+    let starts_front : length (take K result.starts) ≡ K = length-take-le K result.starts (omega (arith, few, found.starts_whole)) in
+    let order_front : length (take K result.order) ≡ K = length-take-le K result.order (omega (arith, few, found.order_whole)) in
     let kept =
     plan_kept v best (lent) (take K result.starts) (take K result.order) _ some
     (λ rows along is.
@@ -148,10 +148,10 @@ returns c =
     ∙ answered_buffers v limit (lent) (tested) in record {
       answer = ap Answered found.answer_is ∙ answered_reply v limit (rooms_of (lent)) (tested);
       starts = c.write_front.ensures
-          ∙ all_over (take K result.starts) c.args.starts.now (omega (arith, starts-front, (rooms).0))
+          ∙ all_over (take K result.starts) c.args.starts.now (omega (arith, starts_front, (rooms).0))
           ∙ ap (λ (b : Buffers). b.starts) kept;
       order = c.write_front-2.ensures
-          ∙ all_over (take K result.order) c.args.order.now (omega (arith, order-front, (rooms).1))
+          ∙ all_over (take K result.order) c.args.order.now (omega (arith, order_front, (rooms).1))
           ∙ ap (λ (b : Buffers). b.order) kept;
       blockers = ap (λ (b : Buffers). b.blockers) kept;
     }
