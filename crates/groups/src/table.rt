@@ -6,6 +6,7 @@ ghost use Rattle.groups.specs.inner.Table.{MeetingTable, GroupStarts};
 use meeting::word_row;
 
 // Who shares a link with whom, by the words of the routes, a row for each demand.
+#[inline(never)]
 pub(crate) fn meeting_table(words: [u64; 200], count: usize) -> [[bool; 200]; 200]
     requires count_bound { count ≤ 200 }
     requires by_index { (i : ℕ) → count ≤ i → get_or words i 0 ≡ 0 }
