@@ -12,6 +12,8 @@ import sys
 # A name is what stands between spaces, brackets and the marks that join names into paths.
 TOKEN = re.compile(r"[^\s(){}\[\],;.:\"`⌜⌝◌«»]+")
 MARKS = r"((?:pattern |unfoldable |abbrev |axiom |pub )*)"
+# Names that go by their words: a lemma about what the library now calls `get_or`, and parameters of definitions.
+BY_WORDS = {"getD-mem": "get_or_mem", "endsRoom": "ends_room", "hopsRoom": "hops_room", "routesRoom": "routes_room"}
 # Words of the library that a dash joins to a name, as in `count_up-append`.
 WORDS = {"append", "length", "take", "drop", "map", "nil", "cons", "set"}
 
@@ -89,6 +91,7 @@ def renaming():
         new = respelled(n, camel)
         if new != n:
             table[n] = new
+    table.update(BY_WORDS)
     # A lemma that would have its function's name, or the name of another, ends in `_lem`.
     for n in camel & set(table):
         if table[n] in names:

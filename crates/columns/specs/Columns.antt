@@ -65,10 +65,10 @@ check_demand_columns v rooms = then (check v) (check_rooms v.demand_count rooms)
 -- the request, then the buffer of the links' nodes, that of the counts, and that of the routes
 unfoldable pub check_route_columns : View → ℕ → ℕ → ℕ → Checked
 unfolding then check check_room
-check_route_columns v endsRoom hopsRoom routesRoom =
+check_route_columns v ends_room hops_room routes_room =
     then (check v)
-    (then (check_room (length (link_ends v.links)) endsRoom)
-    (then (check_room (length (hop_counts v.demands)) hopsRoom) (check_room (length (route_links v.demands)) routesRoom)))
+    (then (check_room (length (link_ends v.links)) ends_room)
+    (then (check_room (length (hop_counts v.demands)) hops_room) (check_room (length (route_links v.demands)) routes_room)))
 
 -- ---- what is answered
 
@@ -80,8 +80,8 @@ demand_reply v rooms = write_answer (check_demand_columns v rooms) v.demand_coun
 -- the answer of `route_columns`: how many links all routes have
 unfoldable pub route_reply : View → ℕ → ℕ → ℕ → Written
 unfolding check_route_columns write_answer route_links
-route_reply v endsRoom hopsRoom routesRoom =
-    write_answer (check_route_columns v endsRoom hopsRoom routesRoom) (length (route_links v.demands))
+route_reply v ends_room hops_room routes_room =
+    write_answer (check_route_columns v ends_room hops_room routes_room) (length (route_links v.demands))
 
 -- ---- the buffers afterwards: the column at the front and the rest as it was; all as it was where refused
 

@@ -1,2 +1,2 @@
--- A request's numbers as columns, and their laws.
+-- A request's numbers as columns.
 pub mod Columns

@@ -13,7 +13,7 @@ use Rattle.theory.specs.Orders.{count_up, listing}
 use Rattle.theory.proofs.ListingLaws.{count_up-length, listing_length, listing_below}
 use Rattle.theory.specs.Groups.{group_size, group_start, group, members}
 use Rattle.theory.proofs.GroupsLaws.{group_next, groups_whole, starts_below, members_arrange}
-use Rattle.placing.proofs.OrderLaws.{get_d_mem}
+use Rattle.placing.proofs.OrderLaws.{get_or_mem}
 use Rattle.groups.specs.inner.Table.{GroupStarts}
 use Rattle.groups.specs.inner.Members.{Filled, WrittenTo}
 
@@ -52,7 +52,7 @@ arranged_filled K M order some arranged =
       numbers =
           λ k h.
           listing_below M (get_or order k 0)
-          (arrange_mem order (listing M) arranged (get_or order k 0) (get_d_mem order k (omega (arith, long))));
+          (arrange_mem order (listing M) arranged (get_or order k 0) (get_or_mem order k (omega (arith, long))));
       whole = arrange_length (members K M order) (listing K) (members_arrange K M order some arranged) ∙ listing_length K;
     }
   where

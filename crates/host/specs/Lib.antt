@@ -1,3 +1,3 @@
--- What the calls for C answer, and their laws.
+-- What the calls for C answer.
 pub mod Host
 pub mod Certified

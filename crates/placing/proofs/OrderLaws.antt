@@ -144,16 +144,16 @@ order_arranges K order sound =
     (λ j m. listing_mem K j (entries_new K [] 0 order entries j m).0)
 
 -- what stands at an index stands in the list
-pub get_d_mem : (list : List ℕ) (m : ℕ) → m < length list → Memᴰ (get_or list m 0) list
-get_d_mem [] m h = absurd (omega arith)
-get_d_mem (x ∷ list) zero h = Memᴰ.head refl
-get_d_mem (x ∷ list) (suc m) h = Memᴰ.tail (get_d_mem list m (omega arith))
+pub get_or_mem : (list : List ℕ) (m : ℕ) → m < length list → Memᴰ (get_or list m 0) list
+get_or_mem [] m h = absurd (omega arith)
+get_or_mem (x ∷ list) zero h = Memᴰ.head refl
+get_or_mem (x ∷ list) (suc m) h = Memᴰ.tail (get_or_mem list m (omega arith))
 
 -- each entry of an order that passes is a listing position
 pub order_positions : (K : ℕ) (order : List ℕ) → check_order K order ≡ checked.Sound → (m : ℕ) → m < length order → get_or order m 0 < K
 unfolding check_order
 order_positions K order sound m h =
-    (entries_new K [] 0 order (next_sound (check_length K order) (check_entries K [] 0 order) sound) (get_or order m 0) (get_d_mem order m h)).0
+    (entries_new K [] 0 order (next_sound (check_length K order) (check_entries K [] 0 order) sound) (get_or order m 0) (get_or_mem order m h)).0
 
 -- entries that are listing positions, none of which stood before or stands twice, pass
 entries_right : (K : ℕ) (earlier : List ℕ) (k : ℕ) (order : List ℕ) →

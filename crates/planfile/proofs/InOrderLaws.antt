@@ -16,7 +16,7 @@ use Rattle.request.specs.Sound.{SoundRequest}
 use Rattle.theory.proofs.TestLaws.{by_test}
 use Rattle.request.specs.View.{View, demand_at}
 use Rattle.meeting.specs.MeetingLaws.{listing_at}
-use Rattle.placing.proofs.OrderLaws.{get_d_mem}
+use Rattle.placing.proofs.OrderLaws.{get_or_mem}
 use Rattle.meeting.specs.Plan.{start_at}
 use Rattle.planfile.specs.PlanFile.{row_field, row_fields, encode_plan}
 use Rattle.planfile.proofs.PlanFileLaws.{row_length, rows_turn, rows_done}
@@ -71,7 +71,7 @@ module _ (v : View) (sound : SoundRequest v) (there : length v.demands ≡ v.dem
   many = arrange_length order (listing v.demand_count) arranged ∙ listing_length v.demand_count
 
   entry_listed : (k : ℕ) → k < v.demand_count → get_or order k 0 < v.demand_count
-  entry_listed k h = listing_below v.demand_count (get_or order k 0) (arrange_mem order (listing v.demand_count) arranged (get_or order k 0) (get_d_mem order k (omega (arith, many))))
+  entry_listed k h = listing_below v.demand_count (get_or order k 0) (arrange_mem order (listing v.demand_count) arranged (get_or order k 0) (get_or_mem order k (omega (arith, many))))
 
   -- the ident in a row of an order
   ident_in_order : (k : ℕ) → k < v.demand_count → number16 (rows_in_order v starts order) (7 * k + 3) ≡ (demand_at v.demands (get_or order k 0)).ident

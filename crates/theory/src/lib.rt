@@ -1,2 +1,2 @@
-// The mathematics of placing: definitions and theorems alone, in specs/. There is nothing here to run.
+// The mathematics of placing: definitions in specs/, and theorems about them in proofs/. There is nothing here to run.
 #![tactic(auto)]

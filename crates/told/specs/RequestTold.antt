@@ -68,8 +68,8 @@ routes_told (Unwritten why) v = routes_refused why
 -- the answer for a file and buffers of these lengths: the reader's refusal, 10, or the three counts
 unfoldable pub routes_entry : FileReading → ℕ → ℕ → ℕ → LightplanRoutes
 unfolding routes_refused routes_told
-routes_entry (refused why) endsRoom hopsRoom routesRoom = routes_refused why
-routes_entry (accepted v) endsRoom hopsRoom routesRoom = routes_told (route_reply v endsRoom hopsRoom routesRoom) v
+routes_entry (refused why) ends_room hops_room routes_room = routes_refused why
+routes_entry (accepted v) ends_room hops_room routes_room = routes_told (route_reply v ends_room hops_room routes_room) v
 
 -- the buffer of the links' nodes afterwards: as the columns leave it, as it was where the file is refused
 unfoldable pub ends_read : FileReading → List ℕ → List ℕ → List ℕ → List ℕ

@@ -1,5 +1,4 @@
--- The worked set: the requests, the calls, the table of their answers, and the theorem that they are the answers; and that the check of
--- starts accepts what the search finds.
+-- The worked set: the requests, the calls, and the table of their answers.
 pub mod Requests
 pub mod Calls
 pub mod Table
