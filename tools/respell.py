@@ -14,6 +14,8 @@ TOKEN = re.compile(r"[^\s(){}\[\],;.:\"`⌜⌝◌«»]+")
 MARKS = r"((?:pattern |unfoldable |abbrev |axiom |pub )*)"
 # Names that go by their words: a lemma about what the library now calls `get_or`, and parameters of definitions.
 BY_WORDS = {"getD-mem": "get_or_mem", "endsRoom": "ends_room", "hopsRoom": "hops_room", "routesRoom": "routes_room"}
+# A name of the library that a line of a proof begins with, as if it were declared there.
+LIBRARYS = {"mul-le-mul_right"}
 # Words of the library that a dash joins to a name, as in `count_up-append`.
 WORDS = {"append", "length", "take", "drop", "map", "nil", "cons", "set"}
 
@@ -86,7 +88,7 @@ def renaming():
     camel = {n for n in names if n[:1].islower() and re.search(r"[a-z0-9][A-Z]", n) and "-" not in n}
     table = {}
     for n in sorted(names):
-        if is_type(n):
+        if is_type(n) or n in LIBRARYS:
             continue
         new = respelled(n, camel)
         if new != n:
