@@ -15,20 +15,26 @@ use Rattle.certify.proofs.certify.Goals as goal
 
 pub told_by-requires : goal.told_by-requires
 told_by-requires c =
-    let passes : check (view c.args.request) ≡ Sound = accepted_sound (view c.args.request) c.args.starts.now c.in-Accepted.end (sym c.check_starts-accepted.ensures ∙ c.in-Accepted.is) in
-    let limits : Limits (view c.args.request) = let request = c.args.request in checked_limits request (whole request _ c.well_formed.0) (passes) in
-    let sound : SoundRequest (view c.args.request) = let request = c.args.request in check_sound (view request) (whole_counted request (whole request _ c.well_formed.0)) (passes) in
-    small_kept (view c.args.request) (sound) (limits) _ c.compacted.ensures
+    let passes : check (view c.args.request) ≡ Sound
+    = accepted_sound (view c.args.request) c.args.starts.now c.in-Accepted.end (sym c.check_starts-accepted.ensures ∙ c.in-Accepted.is) in
+    let limits : Limits (view c.args.request)
+    = let request = c.args.request in checked_limits request (whole request _ c.well_formed.0) passes in
+    let sound : SoundRequest (view c.args.request)
+    = let request = c.args.request in check_sound (view request) (whole_counted request (whole request _ c.well_formed.0)) passes in
+    small_kept (view c.args.request) sound limits _ c.compacted.ensures
 
 pub returns-in-Accepted : goal.returns-in-Accepted
 unfolding certify_reply after_plan
 returns-in-Accepted c =
-    let passes : check (view c.args.request) ≡ Sound = accepted_sound (view c.args.request) c.args.starts.now c.in-Accepted.end (sym c.check_starts-accepted.ensures ∙ c.in-Accepted.is) in
-    let limits : Limits (view c.args.request) = let request = c.args.request in checked_limits request (whole request _ c.well_formed.0) (passes) in
-    let sound : SoundRequest (view c.args.request) = let request = c.args.request in check_sound (view request) (whole_counted request (whole request _ c.well_formed.0)) (passes) in
+    let passes : check (view c.args.request) ≡ Sound
+    = accepted_sound (view c.args.request) c.args.starts.now c.in-Accepted.end (sym c.check_starts-accepted.ensures ∙ c.in-Accepted.is) in
+    let limits : Limits (view c.args.request)
+    = let request = c.args.request in checked_limits request (whole request _ c.well_formed.0) passes in
+    let sound : SoundRequest (view c.args.request)
+    = let request = c.args.request in check_sound (view request) (whole_counted request (whole request _ c.well_formed.0)) passes in
     let a = c.args in
     c.told_by.ensures
-    ∙ small_told (view a.request) (sound) (limits) _ c.compacted.ensures a.weights.now a.a c.in-Accepted.end
+    ∙ small_told (view a.request) sound limits _ c.compacted.ensures a.weights.now a.a c.in-Accepted.end
     ∙ sym (ap (after_plan (view a.request) a.weights.now a.a) (sym c.check_starts-accepted.ensures ∙ c.in-Accepted.is))
 
 pub returns-in-Refused : goal.returns-in-Refused

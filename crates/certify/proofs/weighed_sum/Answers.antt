@@ -26,27 +26,32 @@ overflow_cast-sum c =
 
 pub overflow_cast-sum-in-loop-i : goal.overflow_cast-sum-in-loop-i
 overflow_cast-sum-in-loop-i c =
-    let wide_small : get_or c.args.compact.widths c.loop-i.i 0 + c.args.compact.guard ≤ 392 = let small = c.requires.small in omega (arith, small.width_in_band c.loop-i.i, small.most_slots, small.most_guard) in
+    let wide_small : get_or c.args.compact.widths c.loop-i.i 0 + c.args.compact.guard ≤ 392
+    = let small = c.requires.small in omega (arith, small.width_in_band c.loop-i.i, small.most_slots, small.most_guard) in
     omega (arith, wide_small)
 
 pub overflow_add-sum : goal.overflow_add-sum
 overflow_add-sum c =
-    let wide_small : get_or c.args.compact.widths c.loop-i.i 0 + c.args.compact.guard ≤ 392 = let small = c.requires.small in omega (arith, small.width_in_band c.loop-i.i, small.most_slots, small.most_guard) in
+    let wide_small : get_or c.args.compact.widths c.loop-i.i 0 + c.args.compact.guard ≤ 392
+    = let small = c.requires.small in omega (arith, small.width_in_band c.loop-i.i, small.most_slots, small.most_guard) in
     omega (arith, wide_small)
 
 pub overflow_mul-sum : goal.overflow_mul-sum
 overflow_mul-sum c =
     let weight_small : get_or c.args.weights.now c.loop-i.i 0 ≤ 255 = omega (arith, c.shared_slice_known-1.given c.loop-i.i) in
-    let wide_small : get_or c.args.compact.widths c.loop-i.i 0 + c.args.compact.guard ≤ 392 = let small = c.requires.small in omega (arith, small.width_in_band c.loop-i.i, small.most_slots, small.most_guard) in
-    omega (arith, small_product (get_or c.args.weights.now c.loop-i.i 0) (get_or c.args.compact.widths c.loop-i.i 0 + c.args.compact.guard) (weight_small) (wide_small))
+    let wide_small : get_or c.args.compact.widths c.loop-i.i 0 + c.args.compact.guard ≤ 392
+    = let small = c.requires.small in omega (arith, small.width_in_band c.loop-i.i, small.most_slots, small.most_guard) in
+    omega (arith, small_product (get_or c.args.weights.now c.loop-i.i 0) (get_or c.args.compact.widths c.loop-i.i 0 + c.args.compact.guard) weight_small wide_small)
 
 pub overflow_add-sum-in-loop-i : goal.overflow_add-sum-in-loop-i
 unfolding problem_in
 overflow_add-sum-in-loop-i c =
     let weight_small : get_or c.args.weights.now c.loop-i.i 0 ≤ 255 = omega (arith, c.shared_slice_known-1.given c.loop-i.i) in
-    let wide_small : get_or c.args.compact.widths c.loop-i.i 0 + c.args.compact.guard ≤ 392 = let small = c.requires.small in omega (arith, small.width_in_band c.loop-i.i, small.most_slots, small.most_guard) in
-    let summed : SummedTo (problem_in c.args.compact) c.args.compact.guard c.args.compact.count c.args.weights.now (c.loop-i.sum + get_or c.args.weights.now c.loop-i.i 0 * (get_or c.args.compact.widths c.loop-i.i 0 + c.args.compact.guard)) (c.loop-i.i + 1) = let a = c.args in let at = c.loop-i in sum_more (problem_in a.compact) a.compact.guard a.compact.count a.weights.now at.sum at.i (get_or a.weights.now at.i 0) (get_or a.compact.widths at.i 0 + a.compact.guard) c.loop-i-test.true refl refl (weight_small) (wide_small) at.invariant.1 in
-    omega (arith, (summed).small, c.loop-i-test.true, c.requires.small.most_demands)
+    let wide_small : get_or c.args.compact.widths c.loop-i.i 0 + c.args.compact.guard ≤ 392
+    = let small = c.requires.small in omega (arith, small.width_in_band c.loop-i.i, small.most_slots, small.most_guard) in
+    let summed : SummedTo (problem_in c.args.compact) c.args.compact.guard c.args.compact.count c.args.weights.now (c.loop-i.sum + get_or c.args.weights.now c.loop-i.i 0 * (get_or c.args.compact.widths c.loop-i.i 0 + c.args.compact.guard)) (c.loop-i.i + 1)
+    = let a = c.args in let at = c.loop-i in sum_more (problem_in a.compact) a.compact.guard a.compact.count a.weights.now at.sum at.i (get_or a.weights.now at.i 0) (get_or a.compact.widths at.i 0 + a.compact.guard) c.loop-i-test.true refl refl weight_small wide_small at.invariant.1 in
+    omega (arith, summed.small, c.loop-i-test.true, c.requires.small.most_demands)
 
 pub overflow_add-i : goal.overflow_add-i
 overflow_add-i c = omega (arith, c.loop-i-test.true, c.requires.small.most_demands)
@@ -58,8 +63,10 @@ pub loop-i-preserved : goal.loop-i-preserved
 unfolding problem_in
 loop-i-preserved c =
     let weight_small : get_or c.args.weights.now c.loop-i.i 0 ≤ 255 = omega (arith, c.shared_slice_known-1.given c.loop-i.i) in
-    let wide_small : get_or c.args.compact.widths c.loop-i.i 0 + c.args.compact.guard ≤ 392 = let small = c.requires.small in omega (arith, small.width_in_band c.loop-i.i, small.most_slots, small.most_guard) in
-    let summed : SummedTo (problem_in c.args.compact) c.args.compact.guard c.args.compact.count c.args.weights.now (c.loop-i.sum + get_or c.args.weights.now c.loop-i.i 0 * (get_or c.args.compact.widths c.loop-i.i 0 + c.args.compact.guard)) (c.loop-i.i + 1) = let a = c.args in let at = c.loop-i in sum_more (problem_in a.compact) a.compact.guard a.compact.count a.weights.now at.sum at.i (get_or a.weights.now at.i 0) (get_or a.compact.widths at.i 0 + a.compact.guard) c.loop-i-test.true refl refl (weight_small) (wide_small) at.invariant.1 in
+    let wide_small : get_or c.args.compact.widths c.loop-i.i 0 + c.args.compact.guard ≤ 392
+    = let small = c.requires.small in omega (arith, small.width_in_band c.loop-i.i, small.most_slots, small.most_guard) in
+    let summed : SummedTo (problem_in c.args.compact) c.args.compact.guard c.args.compact.count c.args.weights.now (c.loop-i.sum + get_or c.args.weights.now c.loop-i.i 0 * (get_or c.args.compact.widths c.loop-i.i 0 + c.args.compact.guard)) (c.loop-i.i + 1)
+    = let a = c.args in let at = c.loop-i in sum_more (problem_in a.compact) a.compact.guard a.compact.count a.weights.now at.sum at.i (get_or a.weights.now at.i 0) (get_or a.compact.widths at.i 0 + a.compact.guard) c.loop-i-test.true refl refl weight_small wide_small at.invariant.1 in
     (omega (arith, c.loop-i-test.true), summed)
 
 pub returns : goal.returns

@@ -1,3 +1,4 @@
+-- `grid::block_at` meets its contract: each way through it is one law of the reply.
 use Rattle.std.proofs.Common.{◌∙◌}
 use native.Mathlib.Omega.{arith}
 use Prim.Native.Nat.{◌+◌}

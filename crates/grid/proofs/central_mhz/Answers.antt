@@ -1,3 +1,4 @@
+-- `grid::central_mhz` meets its contract: 64 bits hold it at every n of 32 bits.
 use borrow.Author.Rules.{rules}
 use mir.Syntax.{w32, w64}
 use mir.Facts.{to_z-of_z}

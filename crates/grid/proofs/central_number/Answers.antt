@@ -1,3 +1,4 @@
+-- `grid::central_number` meets its contract: n0 + 2 s + w fits 32 bits at every n0, s and w of 16 bits.
 use borrow.Author.Rules.{rules}
 use native.Mathlib.Omega.{arith}
 use Prim.Native.Nat.{◌+◌, ◌*◌}

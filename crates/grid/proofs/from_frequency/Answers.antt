@@ -1,3 +1,4 @@
+-- `grid::from_frequency` meets its contract: each way through it is one law of the reply.
 use mathlib.Core.Path.{◌≡◌, sym, ◌∙◌, ap}
 use borrow.Author.Rules.{rules}
 use lib.IntN.{ℤ}
@@ -11,7 +12,7 @@ use Rattle.grid.proofs.from_frequency.Goals as goal
 pub returns-then-not-allowed : goal.returns-then-not-allowed
 returns-then-not-allowed c =
     let a = c.args in
-    sym (block_outside a.band a.n a.m ((sym c.allowed.ensures ∙ c.if-not-allowed.true)))
+    sym (block_outside a.band a.n a.m (sym c.allowed.ensures ∙ c.if-not-allowed.true))
 
 pub returns-then-not-width_allowed : goal.returns-then-not-width_allowed
 returns-then-not-width_allowed c =

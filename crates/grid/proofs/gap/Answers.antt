@@ -1,3 +1,4 @@
+-- `grid::gap` meets its contract: n, n0 and m are small beside 64 bits, so neither difference wraps.
 use borrow.Author.Rules.{rules}
 use native.Mathlib.Omega.{arith}
 use mir.Syntax.{w16, w32, w64}

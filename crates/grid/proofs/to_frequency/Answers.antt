@@ -1,3 +1,4 @@
+-- `grid::to_frequency` meets its contract: each way through it is one law of the reply.
 use mathlib.Core.Path.{◌≡◌, sym, ◌∙◌, ap}
 use borrow.Author.Rules.{rules}
 use lib.IntN.{ℤ}
@@ -11,7 +12,7 @@ use Rattle.grid.proofs.to_frequency.Goals as goal
 pub returns-then-not-allowed : goal.returns-then-not-allowed
 returns-then-not-allowed c =
     let a = c.args in
-    sym (frequency_outside a.band a.start a.width ((sym c.allowed.ensures ∙ c.if-not-allowed.true)))
+    sym (frequency_outside a.band a.start a.width (sym c.allowed.ensures ∙ c.if-not-allowed.true))
 
 pub returns-then-not-width_good : goal.returns-then-not-width_good
 returns-then-not-width_good c =

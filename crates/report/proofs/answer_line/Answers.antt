@@ -1,3 +1,4 @@
+-- `report::answer_line` meets its contract: each part stands behind the one before.
 use mathlib.Core.Path.{ap}
 use native.Mathlib.Omega.{arith}
 use Rattle.report.specs.declared.Page.{Page}

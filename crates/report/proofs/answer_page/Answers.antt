@@ -1,3 +1,4 @@
+-- `report::answer_page` meets its contract, outcome by outcome.
 use mathlib.Core.Path.{ap, sym, ◌∙◌}
 use Rattle.search.specs.declared.Outcome.TheVariants.{Finished, NothingFits, Unfinished, UnfinishedEmpty}
 use Rattle.search.specs.Reply.{outcome_end}

@@ -1,3 +1,4 @@
+-- `report::answered_page` meets its contract, outcome by outcome.
 use mathlib.Core.List.{◌++◌}
 use mathlib.Core.Path.{ap, sym, ◌∙◌}
 use native.Mathlib.Omega.{arith}

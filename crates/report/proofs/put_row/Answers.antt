@@ -1,3 +1,4 @@
+-- `report::put_row` meets its contract: a block of the band gives its row.
 use Prim.Native.Nat.{◌+◌, ◌<◌, ℕ}
 use mathlib.Core.Path.{ap, sym, ◌∙◌}
 use native.Mathlib.Omega.{arith}

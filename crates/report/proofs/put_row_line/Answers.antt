@@ -1,3 +1,4 @@
+-- `report::put_row_line` meets its contract: each part stands behind the one before, and has its digits of room.
 use native.Mathlib.Omega.{arith}
 use mir.Facts.{to_z-of_z}
 use Rattle.report.specs.TextLaws.{decimal_digits}

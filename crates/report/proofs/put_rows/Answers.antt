@@ -1,3 +1,4 @@
+-- `report::put_rows` meets its contract: at each turn the page with the rows left is the page with all rows.
 use Prim.Native.Nat.{ℕ}
 use mathlib.Core.Path.{◌≡◌, refl, ap, sym, ◌∙◌}
 use native.Mathlib.Omega.{arith}

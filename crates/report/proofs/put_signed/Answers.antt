@@ -1,3 +1,4 @@
+-- `report::put_signed` meets its contract, by the number's sign.
 use mathlib.Core.Bool.{true, false}
 use mathlib.Core.List.{[], ◌∷◌}
 use mathlib.Core.Path.{◌≡◌, ap, sym, ◌∙◌}

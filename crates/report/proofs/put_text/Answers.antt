@@ -1,3 +1,4 @@
+-- `report::put_text` meets its contract. The loop's invariant: the page holds the bytes passed behind what it held.
 use native.Mathlib.Numerals.{add-one}
 use lib.Seq.{length-take-le, take-suc, take_all}
 use Prim.Native.Nat.{◌<◌}

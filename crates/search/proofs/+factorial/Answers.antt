@@ -1,3 +1,4 @@
+-- `factorial` meets its contract: the measure is the number itself, and the factorial of 20 fits.
 use Rattle.std.proofs.Common.{◌≡◌, ℕ, ◌-◌, ◌*◌, ◌≤◌, sym, subst, ap, ◌∙◌, arith, lt_of_le_of_lt}
 use Rattle.theory.specs.Orders as orders
 use Rattle.search.specs.FactorialLaws.{factorial_falls, factorial_most, factorial_fits}

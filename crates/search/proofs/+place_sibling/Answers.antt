@@ -1,3 +1,5 @@
+-- `place` and `sibling` meet their contracts. `sibling` calls `place` with the same demands unplaced, and itself with one sibling fewer
+-- left; `place` calls `sibling` with one demand fewer unplaced.
 use Rattle.std.proofs.Common.{◌≡◌, ℕ, ◌+◌, ◌-◌, ◌*◌, ◌<◌, ◌≤◌, get_or, set, sym, subst, ap, ◌∙◌, arith, le_refl, le_of_lt}
 use Rattle.std.proofs.Math.Arith.{lt_of_le-ne}
 use Rattle.theory.specs.Orders as orders
@@ -54,7 +56,8 @@ pub place-mend-requires : goal.place-mend-requires
 place-mend-requires t c =
     let a = c.args in
     let r = c.requires in
-    let low_top : problem.top (problem_of a.table a.widths.now a.guard) (problem.place (problem_of a.table a.widths.now a.guard) (rows_of a.low.now a.order.now a.placed) (get_or a.order.now a.at 0)) ≤ 384 = subst (λ (m : ℕ). m ≤ 384) r.end_bound.1 r.end_bound.0 in
+    let low_top : problem.top (problem_of a.table a.widths.now a.guard) (problem.place (problem_of a.table a.widths.now a.guard) (rows_of a.low.now a.order.now a.placed) (get_or a.order.now a.at 0)) ≤ 384
+    = subst (λ (m : ℕ). m ≤ 384) r.end_bound.1 r.end_bound.0 in
     brought_mendable a.table a.widths.now a.guard a.count a.order.now a.low.now a.past.now a.placed a.at c.bring.new.order r.ready r.placed_le_at.0 r.placed_le_at.1 c.bring.ensures low_top
 
 -- one level down the walk may go on
@@ -62,7 +65,8 @@ pub place-sibling-requires : goal.place-sibling-requires
 place-sibling-requires t c =
     let a = c.args in
     let r = c.requires in
-    let low_top : problem.top (problem_of a.table a.widths.now a.guard) (problem.place (problem_of a.table a.widths.now a.guard) (rows_of a.low.now a.order.now a.placed) (get_or a.order.now a.at 0)) ≤ 384 = subst (λ (m : ℕ). m ≤ 384) r.end_bound.1 r.end_bound.0 in
+    let low_top : problem.top (problem_of a.table a.widths.now a.guard) (problem.place (problem_of a.table a.widths.now a.guard) (rows_of a.low.now a.order.now a.placed) (get_or a.order.now a.at 0)) ≤ 384
+    = subst (λ (m : ℕ). m ≤ 384) r.end_bound.1 r.end_bound.0 in
     let rows_down = down_rows a.table a.widths.now a.guard a.count a.order.now a.low.now a.past.now a.placed a.at c.bring.new.order c.mend.new.low r.ready r.placed_le_at.0 r.placed_le_at.1 c.bring.ensures low_top c.mend.ensures in (
       level_falls a.count a.placed t r.ready.sized.few r.placed_le_at.2 c.decreases,
       (
@@ -81,7 +85,8 @@ pub place-returns-clause-walked : goal.place-returns-clause-walked
 place-returns-clause-walked t c =
     let a = c.args in
     let r = c.requires in
-    let low_top : problem.top (problem_of a.table a.widths.now a.guard) (problem.place (problem_of a.table a.widths.now a.guard) (rows_of a.low.now a.order.now a.placed) (get_or a.order.now a.at 0)) ≤ 384 = subst (λ (m : ℕ). m ≤ 384) r.end_bound.1 r.end_bound.0 in
+    let low_top : problem.top (problem_of a.table a.widths.now a.guard) (problem.place (problem_of a.table a.widths.now a.guard) (rows_of a.low.now a.order.now a.placed) (get_or a.order.now a.at 0)) ≤ 384
+    = subst (λ (m : ℕ). m ≤ 384) r.end_bound.1 r.end_bound.0 in
     let rows_down = down_rows a.table a.widths.now a.guard a.count a.order.now a.low.now a.past.now a.placed a.at c.bring.new.order c.mend.new.low r.ready r.placed_le_at.0 r.placed_le_at.1 c.bring.ensures low_top c.mend.ensures in
     c.sibling.ensures.walked
     ∙ sym
@@ -115,7 +120,8 @@ sibling-complete-requires-clause-tally_bound t c =
     let a = c.args in
     let r = c.requires in
     let there : a.at < a.count = lt_of_le-ne r.placed_le_at.1 c.if-at-count.false in
-    let room : Counting (set a.tally.now 0 (get_or a.tally.now 0 0 + 1)) ((orders.factorial (a.count - (a.placed + 1))) + ((a.count - (a.at + 1)) * (orders.factorial (a.count - (a.placed + 1))))) = counting_tried a.tally.now a.count a.placed a.at there r.counting in
+    let room : Counting (set a.tally.now 0 (get_or a.tally.now 0 0 + 1)) ((orders.factorial (a.count - (a.placed + 1))) + ((a.count - (a.at + 1)) * (orders.factorial (a.count - (a.placed + 1)))))
+    = counting_tried a.tally.now a.count a.placed a.at there r.counting in
     counting_one (set a.tally.now 0 (get_or a.tally.now 0 0 + 1)) (a.count - (a.placed + 1)) ((a.count - (a.at + 1)) * (orders.factorial (a.count - (a.placed + 1)))) room
 
 pub sibling-returns-then-left-eq0-clause-walked : goal.sibling-returns-then-left-eq0-clause-walked
@@ -131,8 +137,10 @@ sibling-overflow_add-tally-then-mark-end t c =
     let a = c.args in
     let r = c.requires in
     let there : a.at < a.count = lt_of_le-ne r.placed_le_at.1 c.if-at-count.false in
-    let room : Counting (set a.tally.now 0 (get_or a.tally.now 0 0 + 1)) ((orders.factorial (a.count - (a.placed + 1))) + ((a.count - (a.at + 1)) * (orders.factorial (a.count - (a.placed + 1))))) = counting_tried a.tally.now a.count a.placed a.at there r.counting in
-    let f_room : Counting (set a.tally.now 0 (get_or a.tally.now 0 0 + 1)) (c.factorial.result + ((a.count - (a.at + 1)) * (orders.factorial (a.count - (a.placed + 1))))) = subst (λ (m : ℕ). Counting (set a.tally.now 0 (get_or a.tally.now 0 0 + 1)) (m + ((a.count - (a.at + 1)) * (orders.factorial (a.count - (a.placed + 1)))))) (sym c.factorial.ensures) room in
+    let room : Counting (set a.tally.now 0 (get_or a.tally.now 0 0 + 1)) ((orders.factorial (a.count - (a.placed + 1))) + ((a.count - (a.at + 1)) * (orders.factorial (a.count - (a.placed + 1)))))
+    = counting_tried a.tally.now a.count a.placed a.at there r.counting in
+    let f_room : Counting (set a.tally.now 0 (get_or a.tally.now 0 0 + 1)) (c.factorial.result + ((a.count - (a.at + 1)) * (orders.factorial (a.count - (a.placed + 1)))))
+    = subst (λ (m : ℕ). Counting (set a.tally.now 0 (get_or a.tally.now 0 0 + 1)) (m + ((a.count - (a.at + 1)) * (orders.factorial (a.count - (a.placed + 1)))))) (sym c.factorial.ensures) room in
     record { fits = counting_more (set a.tally.now 0 (get_or a.tally.now 0 0 + 1)) c.factorial.result ((a.count - (a.at + 1)) * (orders.factorial (a.count - (a.placed + 1)))) f_room }
 
 pub sibling-sibling-requires : goal.sibling-sibling-requires
@@ -140,8 +148,10 @@ sibling-sibling-requires t c =
     let a = c.args in
     let r = c.requires in
     let there : a.at < a.count = lt_of_le-ne r.placed_le_at.1 c.if-at-count.false in
-    let room : Counting (set a.tally.now 0 (get_or a.tally.now 0 0 + 1)) ((orders.factorial (a.count - (a.placed + 1))) + ((a.count - (a.at + 1)) * (orders.factorial (a.count - (a.placed + 1))))) = counting_tried a.tally.now a.count a.placed a.at there r.counting in
-    let f_room : Counting (set a.tally.now 0 (get_or a.tally.now 0 0 + 1)) (c.factorial.result + ((a.count - (a.at + 1)) * (orders.factorial (a.count - (a.placed + 1))))) = subst (λ (m : ℕ). Counting (set a.tally.now 0 (get_or a.tally.now 0 0 + 1)) (m + ((a.count - (a.at + 1)) * (orders.factorial (a.count - (a.placed + 1)))))) (sym c.factorial.ensures) room in (
+    let room : Counting (set a.tally.now 0 (get_or a.tally.now 0 0 + 1)) ((orders.factorial (a.count - (a.placed + 1))) + ((a.count - (a.at + 1)) * (orders.factorial (a.count - (a.placed + 1)))))
+    = counting_tried a.tally.now a.count a.placed a.at there r.counting in
+    let f_room : Counting (set a.tally.now 0 (get_or a.tally.now 0 0 + 1)) (c.factorial.result + ((a.count - (a.at + 1)) * (orders.factorial (a.count - (a.placed + 1)))))
+    = subst (λ (m : ℕ). Counting (set a.tally.now 0 (get_or a.tally.now 0 0 + 1)) (m + ((a.count - (a.at + 1)) * (orders.factorial (a.count - (a.placed + 1)))))) (sym c.factorial.ensures) room in (
       sibling_falls a.count a.placed a.at t there c.decreases,
       (
         r.ready,
@@ -161,7 +171,8 @@ sibling-returns-then-mark-end-clause-walked t c =
     let r = c.requires in
     let there : a.at < a.count = lt_of_le-ne r.placed_le_at.1 c.if-at-count.false in
     let more = some_left a.count a.placed r.placed_le_at.2 c.if-left-eq0.false in
-    let end_is : c.higher-end.result ≡ problem.top (problem_of a.table.now a.widths.now a.guard) (problem.place (problem_of a.table.now a.widths.now a.guard) (rows_of a.low.now a.order.now a.placed) (get_or a.order.now a.at 0)) = c.higher-end.ensures ∙ step_end a.table.now a.widths.now a.guard a.count a.order.now a.low.now a.past.now a.placed a.at a.top r.ready r.placed_le_at.0 there r.top_value in
+    let end_is : c.higher-end.result ≡ problem.top (problem_of a.table.now a.widths.now a.guard) (problem.place (problem_of a.table.now a.widths.now a.guard) (rows_of a.low.now a.order.now a.placed) (get_or a.order.now a.at 0))
+    = c.higher-end.ensures ∙ step_end a.table.now a.widths.now a.guard a.count a.order.now a.low.now a.past.now a.placed a.at a.top r.ready r.placed_le_at.0 there r.top_value in
     ends_left (problem_of a.table.now a.widths.now a.guard) a.limit a.bound a.count a.order.now a.low.now a.placed a.at a.tally.now a.plan.now a.along.now r.counting.size r.placed_le_at.0 there c.sibling.new.tally c.sibling.new.plan c.sibling.new.along c.factorial.result c.factorial.ensures more r.counting.on c.if-limit-tally.false
     (subst (λ (m : ℕ). get_or (set a.tally.now 0 (get_or a.tally.now 0 0 + 1)) 3 0 ≤ m) end_is c.if-mark-end.true) c.sibling.ensures.walked
 
@@ -170,9 +181,11 @@ sibling-place-requires t c =
     let a = c.args in
     let r = c.requires in
     let there : a.at < a.count = lt_of_le-ne r.placed_le_at.1 c.if-at-count.false in
-    let room : Counting (set a.tally.now 0 (get_or a.tally.now 0 0 + 1)) ((orders.factorial (a.count - (a.placed + 1))) + ((a.count - (a.at + 1)) * (orders.factorial (a.count - (a.placed + 1))))) = counting_tried a.tally.now a.count a.placed a.at there r.counting in
+    let room : Counting (set a.tally.now 0 (get_or a.tally.now 0 0 + 1)) ((orders.factorial (a.count - (a.placed + 1))) + ((a.count - (a.at + 1)) * (orders.factorial (a.count - (a.placed + 1)))))
+    = counting_tried a.tally.now a.count a.placed a.at there r.counting in
     let more = some_left a.count a.placed r.placed_le_at.2 c.if-left-eq0.false in
-    let end_is : c.higher-end.result ≡ problem.top (problem_of a.table.now a.widths.now a.guard) (problem.place (problem_of a.table.now a.widths.now a.guard) (rows_of a.low.now a.order.now a.placed) (get_or a.order.now a.at 0)) = c.higher-end.ensures ∙ step_end a.table.now a.widths.now a.guard a.count a.order.now a.low.now a.past.now a.placed a.at a.top r.ready r.placed_le_at.0 there r.top_value in (
+    let end_is : c.higher-end.result ≡ problem.top (problem_of a.table.now a.widths.now a.guard) (problem.place (problem_of a.table.now a.widths.now a.guard) (rows_of a.low.now a.order.now a.placed) (get_or a.order.now a.at 0))
+    = c.higher-end.ensures ∙ step_end a.table.now a.widths.now a.guard a.count a.order.now a.low.now a.past.now a.placed a.at a.top r.ready r.placed_le_at.0 there r.top_value in (
       place_falls a.count a.placed a.at t c.decreases,
       (
         r.ready,
@@ -191,7 +204,8 @@ sibling-sibling-requires-then-tally-eq0 t c =
     let a = c.args in
     let r = c.requires in
     let there : a.at < a.count = lt_of_le-ne r.placed_le_at.1 c.if-at-count.false in
-    let room : Counting (set a.tally.now 0 (get_or a.tally.now 0 0 + 1)) ((orders.factorial (a.count - (a.placed + 1))) + ((a.count - (a.at + 1)) * (orders.factorial (a.count - (a.placed + 1))))) = counting_tried a.tally.now a.count a.placed a.at there r.counting in (
+    let room : Counting (set a.tally.now 0 (get_or a.tally.now 0 0 + 1)) ((orders.factorial (a.count - (a.placed + 1))) + ((a.count - (a.at + 1)) * (orders.factorial (a.count - (a.placed + 1)))))
+    = counting_tried a.tally.now a.count a.placed a.at there r.counting in (
       sibling_falls a.count a.placed a.at t there c.decreases,
       (
         r.ready,
@@ -211,8 +225,10 @@ sibling-returns-then-tally-eq0-clause-walked t c =
     let r = c.requires in
     let there : a.at < a.count = lt_of_le-ne r.placed_le_at.1 c.if-at-count.false in
     let more = some_left a.count a.placed r.placed_le_at.2 c.if-left-eq0.false in
-    let end_is : c.higher-end.result ≡ problem.top (problem_of a.table.now a.widths.now a.guard) (problem.place (problem_of a.table.now a.widths.now a.guard) (rows_of a.low.now a.order.now a.placed) (get_or a.order.now a.at 0)) = c.higher-end.ensures ∙ step_end a.table.now a.widths.now a.guard a.count a.order.now a.low.now a.past.now a.placed a.at a.top r.ready r.placed_le_at.0 there r.top_value in
-    let below : problem.top (problem_of a.table.now a.widths.now a.guard) (problem.place (problem_of a.table.now a.widths.now a.guard) (rows_of a.low.now a.order.now a.placed) (get_or a.order.now a.at 0)) < get_or (set a.tally.now 0 (get_or a.tally.now 0 0 + 1)) 3 0 = subst (λ (m : ℕ). m < get_or (set a.tally.now 0 (get_or a.tally.now 0 0 + 1)) 3 0) end_is c.if-mark-end.false in
+    let end_is : c.higher-end.result ≡ problem.top (problem_of a.table.now a.widths.now a.guard) (problem.place (problem_of a.table.now a.widths.now a.guard) (rows_of a.low.now a.order.now a.placed) (get_or a.order.now a.at 0))
+    = c.higher-end.ensures ∙ step_end a.table.now a.widths.now a.guard a.count a.order.now a.low.now a.past.now a.placed a.at a.top r.ready r.placed_le_at.0 there r.top_value in
+    let below : problem.top (problem_of a.table.now a.widths.now a.guard) (problem.place (problem_of a.table.now a.widths.now a.guard) (rows_of a.low.now a.order.now a.placed) (get_or a.order.now a.at 0)) < get_or (set a.tally.now 0 (get_or a.tally.now 0 0 + 1)) 3 0
+    = subst (λ (m : ℕ). m < get_or (set a.tally.now 0 (get_or a.tally.now 0 0 + 1)) 3 0) end_is c.if-mark-end.false in
     ends_into (problem_of a.table.now a.widths.now a.guard) a.limit a.bound a.count a.order.now a.low.now a.placed a.at a.tally.now a.plan.now a.along.now r.counting.size r.placed_le_at.0 there c.place.new.tally c.place.new.plan c.place.new.along c.sibling-then-tally-eq0.new.tally c.sibling-then-tally-eq0.new.plan c.sibling-then-tally-eq0.new.along more c.if-limit-tally.false
     below c.if-tally-eq0.true c.place.ensures.walked c.sibling-then-tally-eq0.ensures.walked
 
@@ -222,7 +238,9 @@ sibling-returns-else-tally-eq0-clause-walked t c =
     let r = c.requires in
     let there : a.at < a.count = lt_of_le-ne r.placed_le_at.1 c.if-at-count.false in
     let more = some_left a.count a.placed r.placed_le_at.2 c.if-left-eq0.false in
-    let end_is : c.higher-end.result ≡ problem.top (problem_of a.table.now a.widths.now a.guard) (problem.place (problem_of a.table.now a.widths.now a.guard) (rows_of a.low.now a.order.now a.placed) (get_or a.order.now a.at 0)) = c.higher-end.ensures ∙ step_end a.table.now a.widths.now a.guard a.count a.order.now a.low.now a.past.now a.placed a.at a.top r.ready r.placed_le_at.0 there r.top_value in
-    let below : problem.top (problem_of a.table.now a.widths.now a.guard) (problem.place (problem_of a.table.now a.widths.now a.guard) (rows_of a.low.now a.order.now a.placed) (get_or a.order.now a.at 0)) < get_or (set a.tally.now 0 (get_or a.tally.now 0 0 + 1)) 3 0 = subst (λ (m : ℕ). m < get_or (set a.tally.now 0 (get_or a.tally.now 0 0 + 1)) 3 0) end_is c.if-mark-end.false in
+    let end_is : c.higher-end.result ≡ problem.top (problem_of a.table.now a.widths.now a.guard) (problem.place (problem_of a.table.now a.widths.now a.guard) (rows_of a.low.now a.order.now a.placed) (get_or a.order.now a.at 0))
+    = c.higher-end.ensures ∙ step_end a.table.now a.widths.now a.guard a.count a.order.now a.low.now a.past.now a.placed a.at a.top r.ready r.placed_le_at.0 there r.top_value in
+    let below : problem.top (problem_of a.table.now a.widths.now a.guard) (problem.place (problem_of a.table.now a.widths.now a.guard) (rows_of a.low.now a.order.now a.placed) (get_or a.order.now a.at 0)) < get_or (set a.tally.now 0 (get_or a.tally.now 0 0 + 1)) 3 0
+    = subst (λ (m : ℕ). m < get_or (set a.tally.now 0 (get_or a.tally.now 0 0 + 1)) 3 0) end_is c.if-mark-end.false in
     ends_ended (problem_of a.table.now a.widths.now a.guard) a.limit a.bound a.count a.order.now a.low.now a.placed a.at a.tally.now a.plan.now a.along.now r.counting.size r.placed_le_at.0 there c.place.new.tally c.place.new.plan c.place.new.along more c.if-limit-tally.false
     below c.if-tally-eq0.false c.place.ensures.walked

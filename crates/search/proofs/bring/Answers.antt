@@ -1,3 +1,4 @@
+-- `search::bring` meets its contract: each turn moves one entry back, and the last store brings the entry to its place.
 use Prim.Native.Nat.{ℕ}
 use mathlib.Core.Path.{◌≡◌, subst}
 use native.Mathlib.Omega.{arith}

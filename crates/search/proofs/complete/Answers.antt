@@ -1,3 +1,4 @@
+-- `search::complete` meets its contract: what it stores into the cells, case by case.
 use Prim.Native.Nat.{ℕ, ◌+◌}
 use mathlib.Core.Path.{◌∙◌}
 use lib.ListN.{get_or, set, length-set}

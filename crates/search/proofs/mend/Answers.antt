@@ -1,3 +1,4 @@
+-- `search::mend` meets its contract: each turn mends the demand at place `p`, and leaves all others.
 use Prim.Native.Nat.{ℕ, ◌<◌}
 use mathlib.Core.Path.{◌≡◌, subst}
 use native.Mathlib.Omega.{arith}
@@ -22,7 +23,8 @@ bounds-order-p c = omega (arith, c.requires.sized.few)
 
 pub overflow_cast-j : goal.overflow_cast-j
 overflow_cast-j c =
-    let inside_20 : (p : ℕ) → p < c.args.count → get_or c.args.order.now p 0 < 20 = λ p h. omega (arith, c.requires.sized.few, c.requires.listed.inside p h) in
+    let inside_20 : (p : ℕ) → p < c.args.count → get_or c.args.order.now p 0 < 20
+    = λ p h. omega (arith, c.requires.sized.few, c.requires.listed.inside p h) in
     let h = inside_20 c.loop-p.p c.loop-p-test.true in omega arith
 
 pub mended-start-requires : goal.mended-start-requires
@@ -32,12 +34,14 @@ mended-start-requires c =
 
 pub offset_bounds-low-j : goal.offset_bounds-low-j
 offset_bounds-low-j c =
-    let inside_20 : (p : ℕ) → p < c.args.count → get_or c.args.order.now p 0 < 20 = λ p h. omega (arith, c.requires.sized.few, c.requires.listed.inside p h) in
+    let inside_20 : (p : ℕ) → p < c.args.count → get_or c.args.order.now p 0 < 20
+    = λ p h. omega (arith, c.requires.sized.few, c.requires.listed.inside p h) in
     let h = inside_20 c.loop-p.p c.loop-p-test.true in omega arith
 
 pub bounds-low-j : goal.bounds-low-j
 bounds-low-j c =
-    let inside_20 : (p : ℕ) → p < c.args.count → get_or c.args.order.now p 0 < 20 = λ p h. omega (arith, c.requires.sized.few, c.requires.listed.inside p h) in
+    let inside_20 : (p : ℕ) → p < c.args.count → get_or c.args.order.now p 0 < 20
+    = λ p h. omega (arith, c.requires.sized.few, c.requires.listed.inside p h) in
     let h = inside_20 c.loop-p.p c.loop-p-test.true in omega arith
 
 pub overflow_add-p-in-loop-p : goal.overflow_add-p-in-loop-p

@@ -1,3 +1,5 @@
+-- `search::scan` meets its contract: no clear start is passed by, and a look that stays has found one. No look goes above 392, so each
+-- brings the rest up to there down.
 use Prim.Native.Nat.{ℕ, ◌+◌, ◌≤◌, ◌<◌}
 use mathlib.Core.List.{List}
 use mathlib.Core.Bool.{Bool}
@@ -37,10 +39,12 @@ returns-then-next-s c =
 
 pub loop-s-smaller : goal.loop-s-smaller
 loop-s-smaller c =
-    let after_look : (c.loop-s.s ≤ c.look-next.result) × (c.look-next.result ≤ 392) × Unpassed c.args.near.now c.args.low.now c.args.past.now c.args.count c.args.span c.args.from c.look-next.result = let a = c.args in let inv = c.loop-s.invariant in looked a.near.now a.low.now a.past.now a.count a.span a.from c.loop-s.s c.look-next.result c.requires.by_index inv.1 inv.2 c.look-next.ensures in
+    let after_look : (c.loop-s.s ≤ c.look-next.result) × (c.look-next.result ≤ 392) × Unpassed c.args.near.now c.args.low.now c.args.past.now c.args.count c.args.span c.args.from c.look-next.result
+    = let a = c.args in let inv = c.loop-s.invariant in looked a.near.now a.low.now a.past.now a.count a.span a.from c.loop-s.s c.look-next.result c.requires.by_index inv.1 inv.2 c.look-next.ensures in
     let after = after_look in omega arith
 
 pub loop-s-preserved : goal.loop-s-preserved
 loop-s-preserved c =
-    let after_look : (c.loop-s.s ≤ c.look-next.result) × (c.look-next.result ≤ 392) × Unpassed c.args.near.now c.args.low.now c.args.past.now c.args.count c.args.span c.args.from c.look-next.result = let a = c.args in let inv = c.loop-s.invariant in looked a.near.now a.low.now a.past.now a.count a.span a.from c.loop-s.s c.look-next.result c.requires.by_index inv.1 inv.2 c.look-next.ensures in
+    let after_look : (c.loop-s.s ≤ c.look-next.result) × (c.look-next.result ≤ 392) × Unpassed c.args.near.now c.args.low.now c.args.past.now c.args.count c.args.span c.args.from c.look-next.result
+    = let a = c.args in let inv = c.loop-s.invariant in looked a.near.now a.low.now a.past.now a.count a.span a.from c.loop-s.s c.look-next.result c.requires.by_index inv.1 inv.2 c.look-next.ensures in
     let after = after_look in (omega arith, after.1, after.2)

@@ -1,3 +1,4 @@
+-- `search::walk_orders` meets its contract: the walk is tried from its start, and its answer tells the tally that the walk ends with.
 use Prim.Native.Nat.{ℕ, ◌+◌}
 use mathlib.Core.List.{[]}
 use mathlib.Core.Path.{◌≡◌, refl, ap, ◌∙◌}
@@ -24,20 +25,23 @@ sibling-requires c =
 
 pub overflow_cast-result : goal.overflow_cast-result
 overflow_cast-result c =
-    let ended : tally_of c.args.count c.sibling.new.tally c.sibling.new.plan c.sibling.new.along ≡ walk (problem_of c.args.table c.args.widths c.args.guard) c.args.limit c.args.bound c.args.count [] [] (listing c.args.count) (fresh (c.args.slots + 1)) = let a = c.args in c.sibling.ensures.walked ∙ tried_first (problem_of a.table a.widths a.guard) a.limit a.bound a.count a.slots twenty (replicate 20 0) (replicate 20 0) (replicate 20 0) c.requires.le_count.0 (λ (k : ℕ) h. twenty_listed k (omega (arith, c.requires.sized.few))) in
+    let ended : tally_of c.args.count c.sibling.new.tally c.sibling.new.plan c.sibling.new.along ≡ walk (problem_of c.args.table c.args.widths c.args.guard) c.args.limit c.args.bound c.args.count [] [] (listing c.args.count) (fresh (c.args.slots + 1))
+    = let a = c.args in c.sibling.ensures.walked ∙ tried_first (problem_of a.table a.widths a.guard) a.limit a.bound a.count a.slots twenty (replicate 20 0) (replicate 20 0) (replicate 20 0) c.requires.le_count.0 (λ (k : ℕ) h. twenty_listed k (omega (arith, c.requires.sized.few))) in
     let a = c.args in
-    omega (arith, ended_steps (problem_of a.table a.widths a.guard) a.limit a.bound a.count a.slots c.sibling.new.tally c.sibling.new.plan c.sibling.new.along (ended), c.ranges.limit)
+    omega (arith, ended_steps (problem_of a.table a.widths a.guard) a.limit a.bound a.count a.slots c.sibling.new.tally c.sibling.new.plan c.sibling.new.along ended, c.ranges.limit)
 
 pub overflow_cast-result-2 : goal.overflow_cast-result-2
 overflow_cast-result-2 c =
-    let ended : tally_of c.args.count c.sibling.new.tally c.sibling.new.plan c.sibling.new.along ≡ walk (problem_of c.args.table c.args.widths c.args.guard) c.args.limit c.args.bound c.args.count [] [] (listing c.args.count) (fresh (c.args.slots + 1)) = let a = c.args in c.sibling.ensures.walked ∙ tried_first (problem_of a.table a.widths a.guard) a.limit a.bound a.count a.slots twenty (replicate 20 0) (replicate 20 0) (replicate 20 0) c.requires.le_count.0 (λ (k : ℕ) h. twenty_listed k (omega (arith, c.requires.sized.few))) in
+    let ended : tally_of c.args.count c.sibling.new.tally c.sibling.new.plan c.sibling.new.along ≡ walk (problem_of c.args.table c.args.widths c.args.guard) c.args.limit c.args.bound c.args.count [] [] (listing c.args.count) (fresh (c.args.slots + 1))
+    = let a = c.args in c.sibling.ensures.walked ∙ tried_first (problem_of a.table a.widths a.guard) a.limit a.bound a.count a.slots twenty (replicate 20 0) (replicate 20 0) (replicate 20 0) c.requires.le_count.0 (λ (k : ℕ) h. twenty_listed k (omega (arith, c.requires.sized.few))) in
     let a = c.args in
-    omega (arith, ended_mark (problem_of a.table a.widths a.guard) a.limit a.bound a.count a.slots c.sibling.new.tally c.sibling.new.plan c.sibling.new.along (ended), c.requires.le_count.1)
+    omega (arith, ended_mark (problem_of a.table a.widths a.guard) a.limit a.bound a.count a.slots c.sibling.new.tally c.sibling.new.plan c.sibling.new.along ended, c.requires.le_count.1)
 
 pub returns : goal.returns
 unfolding tally_of
 returns c =
-    let ended : tally_of c.args.count c.sibling.new.tally c.sibling.new.plan c.sibling.new.along ≡ walk (problem_of c.args.table c.args.widths c.args.guard) c.args.limit c.args.bound c.args.count [] [] (listing c.args.count) (fresh (c.args.slots + 1)) = let a = c.args in c.sibling.ensures.walked ∙ tried_first (problem_of a.table a.widths a.guard) a.limit a.bound a.count a.slots twenty (replicate 20 0) (replicate 20 0) (replicate 20 0) c.requires.le_count.0 (λ (k : ℕ) h. twenty_listed k (omega (arith, c.requires.sized.few))) in
+    let ended : tally_of c.args.count c.sibling.new.tally c.sibling.new.plan c.sibling.new.along ≡ walk (problem_of c.args.table c.args.widths c.args.guard) c.args.limit c.args.bound c.args.count [] [] (listing c.args.count) (fresh (c.args.slots + 1))
+    = let a = c.args in c.sibling.ensures.walked ∙ tried_first (problem_of a.table a.widths a.guard) a.limit a.bound a.count a.slots twenty (replicate 20 0) (replicate 20 0) (replicate 20 0) c.requires.le_count.0 (λ (k : ℕ) h. twenty_listed k (omega (arith, c.requires.sized.few))) in
     let a = c.args in
     let is = ended in
     record {
@@ -49,6 +53,6 @@ returns c =
       found_is =
           found_above a.count (get_or c.sibling.new.tally 5 0) c.sibling.new.plan c.sibling.new.along
           ∙ ap (λ (t : Tally). is_met t.best) is;
-      starts_are = ended_starts (problem_of a.table a.widths a.guard) a.limit a.bound a.count a.slots c.sibling.new.tally c.sibling.new.plan c.sibling.new.along (ended);
-      order_is = ended_order (problem_of a.table a.widths a.guard) a.limit a.bound a.count a.slots c.sibling.new.tally c.sibling.new.plan c.sibling.new.along (ended);
+      starts_are = ended_starts (problem_of a.table a.widths a.guard) a.limit a.bound a.count a.slots c.sibling.new.tally c.sibling.new.plan c.sibling.new.along ended;
+      order_is = ended_order (problem_of a.table a.widths a.guard) a.limit a.bound a.count a.slots c.sibling.new.tally c.sibling.new.plan c.sibling.new.along ended;
     }

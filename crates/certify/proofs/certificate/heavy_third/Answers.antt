@@ -44,11 +44,12 @@ too_heavy-requires c = c.requires.pair_value.1
 pub returns-then-too_heavy : goal.returns-then-too_heavy
 unfolding sharing_in
 returns-then-too_heavy c =
-    let third : c.too_heavy.result ≡ third_heavy (sharing_in c.args.words.now) c.args.weights.now c.args.a (length c.args.weights.now) c.args.i c.args.j c.loop-k.k = let a = c.args in let weight = get_or a.weights.now c.loop-k.k 0 in c.too_heavy.ensures ∙ ap₂ (λ (p q : Bool). not (p || q) && (ltb 0 weight && ltb a.a (a.pair + weight))) c.share_bit.ensures c.share_bit-in-loop-k.ensures ∙ third_is (sharing_in a.words.now) a.weights.now a.a (length a.weights.now) a.i a.j c.loop-k.k a.pair c.requires.pair_value.0 in
+    let third : c.too_heavy.result ≡ third_heavy (sharing_in c.args.words.now) c.args.weights.now c.args.a (length c.args.weights.now) c.args.i c.args.j c.loop-k.k
+    = let a = c.args in let weight = get_or a.weights.now c.loop-k.k 0 in c.too_heavy.ensures ∙ ap₂ (λ (p q : Bool). not (p || q) && (ltb 0 weight && ltb a.a (a.pair + weight))) c.share_bit.ensures c.share_bit-in-loop-k.ensures ∙ third_is (sharing_in a.words.now) a.weights.now a.a (length a.weights.now) a.i a.j c.loop-k.k a.pair c.requires.pair_value.0 in
     let a = c.args in
     let at = c.loop-k in
     sym (some_here (third_heavy (sharing_in a.words.now) a.weights.now a.a (length a.weights.now) a.i a.j) at.k (length a.weights.now) c.loop-k-test.true
-    (sym (third) ∙ c.if-too_heavy.true))
+    (sym third ∙ c.if-too_heavy.true))
     ∙ at.invariant.1
 
 pub overflow_add-k-in-loop-k : goal.overflow_add-k-in-loop-k
@@ -60,12 +61,13 @@ loop-k-smaller c = omega (arith, c.loop-k-test.true)
 pub loop-k-preserved : goal.loop-k-preserved
 unfolding sharing_in
 loop-k-preserved c =
-    let third : c.too_heavy.result ≡ third_heavy (sharing_in c.args.words.now) c.args.weights.now c.args.a (length c.args.weights.now) c.args.i c.args.j c.loop-k.k = let a = c.args in let weight = get_or a.weights.now c.loop-k.k 0 in c.too_heavy.ensures ∙ ap₂ (λ (p q : Bool). not (p || q) && (ltb 0 weight && ltb a.a (a.pair + weight))) c.share_bit.ensures c.share_bit-in-loop-k.ensures ∙ third_is (sharing_in a.words.now) a.weights.now a.a (length a.weights.now) a.i a.j c.loop-k.k a.pair c.requires.pair_value.0 in
+    let third : c.too_heavy.result ≡ third_heavy (sharing_in c.args.words.now) c.args.weights.now c.args.a (length c.args.weights.now) c.args.i c.args.j c.loop-k.k
+    = let a = c.args in let weight = get_or a.weights.now c.loop-k.k 0 in c.too_heavy.ensures ∙ ap₂ (λ (p q : Bool). not (p || q) && (ltb 0 weight && ltb a.a (a.pair + weight))) c.share_bit.ensures c.share_bit-in-loop-k.ensures ∙ third_is (sharing_in a.words.now) a.weights.now a.a (length a.weights.now) a.i a.j c.loop-k.k a.pair c.requires.pair_value.0 in
     let a = c.args in
     let at = c.loop-k in (
       omega (arith, at.invariant.0),
       sym (some_on (third_heavy (sharing_in a.words.now) a.weights.now a.a (length a.weights.now) a.i a.j) at.k (length a.weights.now) c.loop-k-test.true
-          (sym (third) ∙ c.if-too_heavy.false))
+          (sym third ∙ c.if-too_heavy.false))
           ∙ at.invariant.1,
     )
 

@@ -44,7 +44,8 @@ pub try_group-returns-then-best-end-clause-tried : goal.try_group-returns-then-b
 try_group-returns-then-best-end-clause-tried t c =
     let a = c.args in
     let r = c.requires in
-    let placed_it : GroupTried (problem_of a.table.now a.widths.now a.guard) a.count (reach (problem_of a.table.now a.widths.now a.guard) a.count a.m (take a.placed a.order.now)) (get_or a.first.now a.g 0) (get_or a.first.now (a.g + 1) 0) (get_or a.mark.now 0 0) a.ends.now c.place_group-end.result c.place_group-end.new.starts c.place_group-end.new.ends = c.place_group-end.ensures
+    let placed_it : GroupTried (problem_of a.table.now a.widths.now a.guard) a.count (reach (problem_of a.table.now a.widths.now a.guard) a.count a.m (take a.placed a.order.now)) (get_or a.first.now a.g 0) (get_or a.first.now (a.g + 1) 0) (get_or a.mark.now 0 0) a.ends.now c.place_group-end.result c.place_group-end.new.starts c.place_group-end.new.ends
+    = c.place_group-end.ensures
     (reach (problem_of a.table.now a.widths.now a.guard) a.count a.m (take a.placed a.order.now))
     (group_asked a.table.now a.widths.now a.guard a.count a.first.now a.m a.used.now a.order.now a.placed a.top a.starts.now a.ends.now r.ready a.g r.g_lt_m.0 c.if-used-g.false) in
     λ lead held.
@@ -56,7 +57,8 @@ pub try_group-returns-then-placed-m : goal.try_group-returns-then-placed-m
 try_group-returns-then-placed-m t c =
     let a = c.args in
     let r = c.requires in
-    let placed_it : GroupTried (problem_of a.table.now a.widths.now a.guard) a.count (reach (problem_of a.table.now a.widths.now a.guard) a.count a.m (take a.placed a.order.now)) (get_or a.first.now a.g 0) (get_or a.first.now (a.g + 1) 0) (get_or a.mark.now 0 0) a.ends.now c.place_group-end.result c.place_group-end.new.starts c.place_group-end.new.ends = c.place_group-end.ensures
+    let placed_it : GroupTried (problem_of a.table.now a.widths.now a.guard) a.count (reach (problem_of a.table.now a.widths.now a.guard) a.count a.m (take a.placed a.order.now)) (get_or a.first.now a.g 0) (get_or a.first.now (a.g + 1) 0) (get_or a.mark.now 0 0) a.ends.now c.place_group-end.result c.place_group-end.new.starts c.place_group-end.new.ends
+    = c.place_group-end.ensures
     (reach (problem_of a.table.now a.widths.now a.guard) a.count a.m (take a.placed a.order.now))
     (group_asked a.table.now a.widths.now a.guard a.count a.first.now a.m a.used.now a.order.now a.placed a.top a.starts.now a.ends.now r.ready a.g r.g_lt_m.0 c.if-used-g.false) in
     let low = c.if-best-end.false in
@@ -74,7 +76,8 @@ pub try_group-try_groups-requires : goal.try_group-try_groups-requires
 try_group-try_groups-requires t c =
     let a = c.args in
     let r = c.requires in
-    let placed_it : GroupTried (problem_of a.table.now a.widths.now a.guard) a.count (reach (problem_of a.table.now a.widths.now a.guard) a.count a.m (take a.placed a.order.now)) (get_or a.first.now a.g 0) (get_or a.first.now (a.g + 1) 0) (get_or a.mark.now 0 0) a.ends.now c.place_group-end.result c.place_group-end.new.starts c.place_group-end.new.ends = c.place_group-end.ensures
+    let placed_it : GroupTried (problem_of a.table.now a.widths.now a.guard) a.count (reach (problem_of a.table.now a.widths.now a.guard) a.count a.m (take a.placed a.order.now)) (get_or a.first.now a.g 0) (get_or a.first.now (a.g + 1) 0) (get_or a.mark.now 0 0) a.ends.now c.place_group-end.result c.place_group-end.new.starts c.place_group-end.new.ends
+    = c.place_group-end.ensures
     (reach (problem_of a.table.now a.widths.now a.guard) a.count a.m (take a.placed a.order.now))
     (group_asked a.table.now a.widths.now a.guard a.count a.first.now a.m a.used.now a.order.now a.placed a.top a.starts.now a.ends.now r.ready a.g r.g_lt_m.0 c.if-used-g.false) in
     let more = more_left a.m a.placed r.ready.not_all c.if-placed-m.false in (
@@ -89,7 +92,8 @@ pub try_group-returns-clause-tried : goal.try_group-returns-clause-tried
 try_group-returns-clause-tried t c =
     let a = c.args in
     let r = c.requires in
-    let placed_it : GroupTried (problem_of a.table.now a.widths.now a.guard) a.count (reach (problem_of a.table.now a.widths.now a.guard) a.count a.m (take a.placed a.order.now)) (get_or a.first.now a.g 0) (get_or a.first.now (a.g + 1) 0) (get_or a.mark.now 0 0) a.ends.now c.place_group-end.result c.place_group-end.new.starts c.place_group-end.new.ends = c.place_group-end.ensures
+    let placed_it : GroupTried (problem_of a.table.now a.widths.now a.guard) a.count (reach (problem_of a.table.now a.widths.now a.guard) a.count a.m (take a.placed a.order.now)) (get_or a.first.now a.g 0) (get_or a.first.now (a.g + 1) 0) (get_or a.mark.now 0 0) a.ends.now c.place_group-end.result c.place_group-end.new.starts c.place_group-end.new.ends
+    = c.place_group-end.ensures
     (reach (problem_of a.table.now a.widths.now a.guard) a.count a.m (take a.placed a.order.now))
     (group_asked a.table.now a.widths.now a.guard a.count a.first.now a.m a.used.now a.order.now a.placed a.top a.starts.now a.ends.now r.ready a.g r.g_lt_m.0 c.if-used-g.false) in
     let more = more_left a.m a.placed r.ready.not_all c.if-placed-m.false in

@@ -46,13 +46,14 @@ bounds-widths-i c =
 pub returns-in_default : goal.returns-in_default
 unfolding problem_of
 returns-in_default c =
-    let meets : (j : ℕ) → j < c.args.count → get_or (get_or c.args.table.now c.loop-i.i []) j false ≡ (problem_of c.args.table.now c.args.widths.now c.args.guard).joined j c.loop-i.i = λ j h. c.requires.on_table.two_way c.loop-i.i j in
+    let meets : (j : ℕ) → j < c.args.count → get_or (get_or c.args.table.now c.loop-i.i []) j false ≡ (problem_of c.args.table.now c.args.widths.now c.args.guard).joined j c.loop-i.i
+    = λ j h. c.requires.on_table.two_way c.loop-i.i j in
     let a = c.args in
     let at = c.loop-i in
     λ rows asked.
     group_stuck (problem_of a.table.now a.widths.now a.guard) a.count a.guard rows a.from a.to at.i a.ends.now at.end
     at.starts at.ends c.requires.on_table.board at.invariant.0 c.loop-i-test.true c.requires.le_mark.2 (at.invariant.4 rows asked)
-    (get_or a.table.now at.i []) (meets) (a.mark - 1) c.lowest_spot-spot.result c.lowest_spot-spot.ensures
+    (get_or a.table.now at.i []) meets (a.mark - 1) c.lowest_spot-spot.result c.lowest_spot-spot.ensures
     a.mark (omega (arith, c.requires.le_mark.0)) (sym c.in_default.is) at.invariant.2 at.invariant.3
 
 pub offset_bounds-starts-i : goal.offset_bounds-starts-i
@@ -67,8 +68,10 @@ bounds-starts-i c =
 
 pub overflow_add-ends : goal.overflow_add-ends
 overflow_add-ends c =
-    let ends_within : c.in-At.start + get_or c.args.widths.now c.loop-i.i 0 ≤ c.args.mark - 1 = let a = c.args in let at = c.loop-i in found_within _ at.starts at.ends a.count (get_or a.widths.now at.i 0) a.guard (a.mark - 1) c.in-At.start (sym c.in-At.is ∙ c.lowest_spot-spot.ensures) in
-    let ends_fit : c.in-At.start + get_or c.args.widths.now c.loop-i.i 0 ≤ 65535 = let h : c.args.mark < 2 ^ 16 = search rules in omega (arith, ends_within) in
+    let ends_within : c.in-At.start + get_or c.args.widths.now c.loop-i.i 0 ≤ c.args.mark - 1
+    = let a = c.args in let at = c.loop-i in found_within _ at.starts at.ends a.count (get_or a.widths.now at.i 0) a.guard (a.mark - 1) c.in-At.start (sym c.in-At.is ∙ c.lowest_spot-spot.ensures) in
+    let ends_fit : c.in-At.start + get_or c.args.widths.now c.loop-i.i 0 ≤ 65535
+    = let h : c.args.mark < 2 ^ 16 = search rules in omega (arith, ends_within) in
     omega (arith, ends_fit)
 
 pub offset_bounds-ends-i : goal.offset_bounds-ends-i
@@ -83,8 +86,10 @@ bounds-ends-i c =
 
 pub overflow_add-start : goal.overflow_add-start
 overflow_add-start c =
-    let ends_within : c.in-At.start + get_or c.args.widths.now c.loop-i.i 0 ≤ c.args.mark - 1 = let a = c.args in let at = c.loop-i in found_within _ at.starts at.ends a.count (get_or a.widths.now at.i 0) a.guard (a.mark - 1) c.in-At.start (sym c.in-At.is ∙ c.lowest_spot-spot.ensures) in
-    let ends_fit : c.in-At.start + get_or c.args.widths.now c.loop-i.i 0 ≤ 65535 = let h : c.args.mark < 2 ^ 16 = search rules in omega (arith, ends_within) in
+    let ends_within : c.in-At.start + get_or c.args.widths.now c.loop-i.i 0 ≤ c.args.mark - 1
+    = let a = c.args in let at = c.loop-i in found_within _ at.starts at.ends a.count (get_or a.widths.now at.i 0) a.guard (a.mark - 1) c.in-At.start (sym c.in-At.is ∙ c.lowest_spot-spot.ensures) in
+    let ends_fit : c.in-At.start + get_or c.args.widths.now c.loop-i.i 0 ≤ 65535
+    = let h : c.args.mark < 2 ^ 16 = search rules in omega (arith, ends_within) in
     omega (arith, ends_fit)
 
 pub loop-i-smaller : goal.loop-i-smaller
@@ -93,7 +98,8 @@ loop-i-smaller c = omega arith
 pub loop-i-preserved : goal.loop-i-preserved
 unfolding problem_of
 loop-i-preserved c =
-    let meets : (j : ℕ) → j < c.args.count → get_or (get_or c.args.table.now c.loop-i.i []) j false ≡ (problem_of c.args.table.now c.args.widths.now c.args.guard).joined j c.loop-i.i = λ j h. c.requires.on_table.two_way c.loop-i.i j in
+    let meets : (j : ℕ) → j < c.args.count → get_or (get_or c.args.table.now c.loop-i.i []) j false ≡ (problem_of c.args.table.now c.args.widths.now c.args.guard).joined j c.loop-i.i
+    = λ j h. c.requires.on_table.two_way c.loop-i.i j in
     let a = c.args in
     let at = c.loop-i in
     let s = c.in-At.start in (
@@ -104,7 +110,7 @@ loop-i-preserved c =
       λ rows asked.
           so_far_more (problem_of a.table.now a.widths.now a.guard) a.count a.guard rows a.from a.to at.i a.ends.now at.end
           at.starts at.ends c.requires.on_table.board at.invariant.0 c.loop-i-test.true c.requires.le_mark.2 (at.invariant.4 rows asked)
-          (get_or a.table.now at.i []) (meets) (a.mark - 1) c.lowest_spot-spot.result c.lowest_spot-spot.ensures
+          (get_or a.table.now at.i []) meets (a.mark - 1) c.lowest_spot-spot.result c.lowest_spot-spot.ensures
           s c.higher-end.result (sym c.in-At.is) c.higher-end.ensures at.invariant.2 at.invariant.3,
     )
 

@@ -1,3 +1,4 @@
+-- `host::certifying::certified_told` meets its contract, case by case.
 use mathlib.Core.Path.{sym, ap, ◌∙◌}
 use Rattle.host.specs.Certified.{certify_told}
 use Rattle.host.proofs.CertifiedLaws.{of_certificate, of_its_plan}

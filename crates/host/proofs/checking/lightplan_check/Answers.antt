@@ -12,19 +12,21 @@ use Rattle.host.proofs.checking.lightplan_check.Goals as goal
 pub returns-in-Refused : goal.returns-in-Refused
 unfolding verdict_entry starts_read
 returns-in-Refused c =
-    let no_request : read_file c.args.file.now ≡ refused c.in-Refused.why = file_refused c.args.file.now c.read_request-reading.result c.in-Refused.why c.read_request-reading.ensures c.in-Refused.is in
+    let no_request : read_file c.args.file.now ≡ refused c.in-Refused.why
+    = file_refused c.args.file.now c.read_request-reading.result c.in-Refused.why c.read_request-reading.ensures c.in-Refused.is in
     let a = c.args in
-    let read = sym (no_request) in record { answer = c.verdict_refused.ensures ∙ ap (λ (file : FileReading). verdict_entry file a.plan.now (length a.starts.now)) read; starts = ap (λ (file : FileReading). starts_read file a.plan.now a.starts.now) read }
+    let read = sym no_request in record { answer = c.verdict_refused.ensures ∙ ap (λ (file : FileReading). verdict_entry file a.plan.now (length a.starts.now)) read; starts = ap (λ (file : FileReading). starts_read file a.plan.now a.starts.now) read }
 
 pub returns : goal.returns
 unfolding verdict_entry starts_read
 returns c =
-    let request_read : read_file c.args.file.now ≡ accepted (view c.read_request-reading.result.request) = file_accepted c.args.file.now c.read_request-reading.result (bytes_known _ c.shared_slice_known-1.given) c.read_request-reading.ensures c.in_default.is in
+    let request_read : read_file c.args.file.now ≡ accepted (view c.read_request-reading.result.request)
+    = file_accepted c.args.file.now c.read_request-reading.result (bytes_known _ c.shared_slice_known-1.given) c.read_request-reading.ensures c.in_default.is in
     let a = c.args in
     let v = view c.read_request-reading.result.request in
     let need = c.bound-need in
     let checked = c.read_plan-reply in
-    let read = sym (request_read) in record {
+    let read = sym request_read in record {
       answer = c.check_told.ensures ∙ (ap (λ (b : BoundReply). check_told b checked.result) need.ensures
           ∙ (ap (λ (reply : CheckReply). check_told (bound_reply v) reply) checked.ensures.value
           ∙ ap (λ (file : FileReading). verdict_entry file a.plan.now (length a.starts.now)) read));

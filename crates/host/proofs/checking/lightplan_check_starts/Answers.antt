@@ -11,15 +11,17 @@ use Rattle.host.proofs.checking.lightplan_check_starts.Goals as goal
 pub returns-in-Refused : goal.returns-in-Refused
 unfolding starts_entry
 returns-in-Refused c =
-    let no_request : read_file c.args.file.now ≡ refused c.in-Refused.why = file_refused c.args.file.now c.read_request-reading.result c.in-Refused.why c.read_request-reading.ensures c.in-Refused.is in
-    c.verdict_refused.ensures ∙ ap (λ (file : FileReading). starts_entry file c.args.starts.now) (sym (no_request))
+    let no_request : read_file c.args.file.now ≡ refused c.in-Refused.why
+    = file_refused c.args.file.now c.read_request-reading.result c.in-Refused.why c.read_request-reading.ensures c.in-Refused.is in
+    c.verdict_refused.ensures ∙ ap (λ (file : FileReading). starts_entry file c.args.starts.now) (sym no_request)
 
 pub returns : goal.returns
 unfolding starts_entry
 returns c =
-    let request_read : read_file c.args.file.now ≡ accepted (view c.read_request-reading.result.request) = file_accepted c.args.file.now c.read_request-reading.result (bytes_known _ c.shared_slice_known-1.given) c.read_request-reading.ensures c.in_default.is in
+    let request_read : read_file c.args.file.now ≡ accepted (view c.read_request-reading.result.request)
+    = file_accepted c.args.file.now c.read_request-reading.result (bytes_known _ c.shared_slice_known-1.given) c.read_request-reading.ensures c.in_default.is in
     let a = c.args in
     let v = view c.read_request-reading.result.request in
     c.check_told.ensures ∙ (ap (λ (b : BoundReply). check_told b c.check_starts-reply.result) c.bound-need.ensures
     ∙ (ap (λ (reply : CheckReply). check_told (bound_reply v) reply) c.check_starts-reply.ensures
-    ∙ ap (λ (file : FileReading). starts_entry file a.starts.now) (sym (request_read))))
+    ∙ ap (λ (file : FileReading). starts_entry file a.starts.now) (sym request_read)))

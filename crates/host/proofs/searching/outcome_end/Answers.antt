@@ -1,3 +1,4 @@
+-- `host::searching::outcome_end` meets its contract, outcome by outcome.
 use mathlib.Core.Path.{sym, ap}
 use Rattle.search.specs.Reply.{outcome_end}
 use Rattle.host.proofs.searching.outcome_end.Goals as goal

@@ -1,3 +1,4 @@
+-- `host::searching::outcome_number` meets its contract, outcome by outcome.
 use mathlib.Core.Path.{sym, ap}
 use Rattle.search.specs.Reply.{outcome_number}
 use Rattle.host.proofs.searching.outcome_number.Goals as goal

@@ -32,7 +32,7 @@ returns-then-not-end_within c =
     let starts = c.args.starts.now in
     let at = c.loop-k in
     sym (at.invariant.1 ∙ end_refused (problem_in compact) compact.slots starts compact.count at.k c.loop-k-test.true
-    (leb-false _ _ ((sym c.end_within.ensures ∙ c.if-not-end_within.true))))
+    (leb-false _ _ (sym c.end_within.ensures ∙ c.if-not-end_within.true)))
 
 pub loop-k-smaller : goal.loop-k-smaller
 loop-k-smaller c = omega arith
@@ -45,7 +45,7 @@ loop-k-preserved c =
     let at = c.loop-k in (
       omega arith,
       at.invariant.1 ∙ end_passes (problem_in compact) compact.slots starts compact.count at.k c.loop-k-test.true
-          (leb-true _ _ ((sym c.end_within.ensures ∙ c.if-not-end_within.false))),
+          (leb-true _ _ (sym c.end_within.ensures ∙ c.if-not-end_within.false)),
     )
 
 pub returns : goal.returns

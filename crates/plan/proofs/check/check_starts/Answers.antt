@@ -28,25 +28,29 @@ returns-then-starts-request c =
     let passes : check (view c.args.request) ≡ Sound = sym c.check_request-sound.ensures ∙ c.in_default.is in
     let a = c.args in
     let v = view a.request in
-    sym (ap (λ x. reply_with x (end_of_plan v a.starts.now)) (count_refused v a.starts.now (passes) c.if-starts-request.true))
+    sym (ap (λ x. reply_with x (end_of_plan v a.starts.now)) (count_refused v a.starts.now passes c.if-starts-request.true))
 
 pub check_places-placed-requires : goal.check_places-placed-requires
 unfolding view
 check_places-placed-requires c =
     let passes : check (view c.args.request) ≡ Sound = sym c.check_request-sound.ensures ∙ c.in_default.is in
-    let limits : Limits (view c.args.request) = checked_limits c.args.request (whole c.args.request _ c.well_formed.0) (passes) in
-    let sound : SoundRequest (view c.args.request) = check_sound (view c.args.request) (whole_counted c.args.request (whole c.args.request _ c.well_formed.0)) (passes) in
+    let limits : Limits (view c.args.request) = checked_limits c.args.request (whole c.args.request _ c.well_formed.0) passes in
+    let sound : SoundRequest (view c.args.request)
+    = check_sound (view c.args.request) (whole_counted c.args.request (whole c.args.request _ c.well_formed.0)) passes in
     let a = c.args in
-    let v = view a.request in record { small = small_kept v (sound) (limits) _ c.compacted-compact.ensures; count_in_bounds = small_enough v (sound) (limits) _ c.compacted-compact.ensures a.starts.now c.if-starts-request.false }
+    let v = view a.request in record { small = small_kept v sound limits _ c.compacted-compact.ensures; count_in_bounds = small_enough v sound limits _ c.compacted-compact.ensures a.starts.now c.if-starts-request.false }
 
 pub returns-in-Refused-placed : goal.returns-in-Refused-placed
 unfolding starts_reply reply_with view
 returns-in-Refused-placed c =
     let passes : check (view c.args.request) ≡ Sound = sym c.check_request-sound.ensures ∙ c.in_default.is in
-    let limits : Limits (view c.args.request) = checked_limits c.args.request (whole c.args.request _ c.well_formed.0) (passes) in
-    let sound : SoundRequest (view c.args.request) = check_sound (view c.args.request) (whole_counted c.args.request (whole c.args.request _ c.well_formed.0)) (passes) in
-    let found : c.check_places-placed.result ≡ check_places (view c.args.request) c.args.starts.now = let a = c.args in c.check_places-placed.ensures ∙ small_places (view a.request) (sound) (limits) _ c.compacted-compact.ensures a.starts.now in
-    let decide : check_starts (view c.args.request) c.args.starts.now ≡ c.check_places-placed.result = let a = c.args in places_decide (view a.request) a.starts.now (passes) c.if-starts-request.false ∙ sym (found) in
+    let limits : Limits (view c.args.request) = checked_limits c.args.request (whole c.args.request _ c.well_formed.0) passes in
+    let sound : SoundRequest (view c.args.request)
+    = check_sound (view c.args.request) (whole_counted c.args.request (whole c.args.request _ c.well_formed.0)) passes in
+    let found : c.check_places-placed.result ≡ check_places (view c.args.request) c.args.starts.now
+    = let a = c.args in c.check_places-placed.ensures ∙ small_places (view a.request) sound limits _ c.compacted-compact.ensures a.starts.now in
+    let decide : check_starts (view c.args.request) c.args.starts.now ≡ c.check_places-placed.result
+    = let a = c.args in places_decide (view a.request) a.starts.now passes c.if-starts-request.false ∙ sym found in
     let a = c.args in
     let v = view a.request in
     sym (ap (λ x. reply_with x (end_of_plan v a.starts.now)) (decide ∙ c.in-Refused-placed.is))
@@ -55,23 +59,28 @@ pub plan_end-requires : goal.plan_end-requires
 unfolding view
 plan_end-requires c =
     let passes : check (view c.args.request) ≡ Sound = sym c.check_request-sound.ensures ∙ c.in_default.is in
-    let limits : Limits (view c.args.request) = checked_limits c.args.request (whole c.args.request _ c.well_formed.0) (passes) in
-    let sound : SoundRequest (view c.args.request) = check_sound (view c.args.request) (whole_counted c.args.request (whole c.args.request _ c.well_formed.0)) (passes) in
-    let found : c.check_places-placed.result ≡ check_places (view c.args.request) c.args.starts.now = let a = c.args in c.check_places-placed.ensures ∙ small_places (view a.request) (sound) (limits) _ c.compacted-compact.ensures a.starts.now in
+    let limits : Limits (view c.args.request) = checked_limits c.args.request (whole c.args.request _ c.well_formed.0) passes in
+    let sound : SoundRequest (view c.args.request)
+    = check_sound (view c.args.request) (whole_counted c.args.request (whole c.args.request _ c.well_formed.0)) passes in
+    let found : c.check_places-placed.result ≡ check_places (view c.args.request) c.args.starts.now
+    = let a = c.args in c.check_places-placed.ensures ∙ small_places (view a.request) sound limits _ c.compacted-compact.ensures a.starts.now in
     let a = c.args in
     let is = c.compacted-compact.ensures in
-    let v = view a.request in record { small = small_kept v (sound) (limits) _ is; count_in_bounds = small_enough v (sound) (limits) _ is a.starts.now c.if-starts-request.false; ends_within = small_within v (sound) (limits) _ is a.starts.now (sym (found) ∙ c.in_default-placed.is) }
+    let v = view a.request in record { small = small_kept v sound limits _ is; count_in_bounds = small_enough v sound limits _ is a.starts.now c.if-starts-request.false; ends_within = small_within v sound limits _ is a.starts.now (sym found ∙ c.in_default-placed.is) }
 
 pub returns : goal.returns
 unfolding starts_reply reply_with view
 returns c =
     let passes : check (view c.args.request) ≡ Sound = sym c.check_request-sound.ensures ∙ c.in_default.is in
-    let limits : Limits (view c.args.request) = checked_limits c.args.request (whole c.args.request _ c.well_formed.0) (passes) in
-    let sound : SoundRequest (view c.args.request) = check_sound (view c.args.request) (whole_counted c.args.request (whole c.args.request _ c.well_formed.0)) (passes) in
-    let found : c.check_places-placed.result ≡ check_places (view c.args.request) c.args.starts.now = let a = c.args in c.check_places-placed.ensures ∙ small_places (view a.request) (sound) (limits) _ c.compacted-compact.ensures a.starts.now in
-    let decide : check_starts (view c.args.request) c.args.starts.now ≡ c.check_places-placed.result = let a = c.args in places_decide (view a.request) a.starts.now (passes) c.if-starts-request.false ∙ sym (found) in
+    let limits : Limits (view c.args.request) = checked_limits c.args.request (whole c.args.request _ c.well_formed.0) passes in
+    let sound : SoundRequest (view c.args.request)
+    = check_sound (view c.args.request) (whole_counted c.args.request (whole c.args.request _ c.well_formed.0)) passes in
+    let found : c.check_places-placed.result ≡ check_places (view c.args.request) c.args.starts.now
+    = let a = c.args in c.check_places-placed.ensures ∙ small_places (view a.request) sound limits _ c.compacted-compact.ensures a.starts.now in
+    let decide : check_starts (view c.args.request) c.args.starts.now ≡ c.check_places-placed.result
+    = let a = c.args in places_decide (view a.request) a.starts.now passes c.if-starts-request.false ∙ sym found in
     let a = c.args in
     let v = view a.request in
     sym
     (ap₂ reply_with (decide ∙ c.in_default-placed.is)
-    (sym (c.plan_end.ensures ∙ small_end v (sound) (limits) _ c.compacted-compact.ensures a.starts.now)))
+    (sym (c.plan_end.ensures ∙ small_end v sound limits _ c.compacted-compact.ensures a.starts.now)))

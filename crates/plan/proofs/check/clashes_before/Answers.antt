@@ -68,11 +68,12 @@ bounds-compact-j-in-loop-j c =
 pub returns-then-close-share_bit : goal.returns-then-close-share_bit
 unfolding start_at
 returns-then-close-share_bit c =
-    let clash_is : (c.too_close-close.result && c.share_bit.result) ≡ (too_close c.args.compact.guard (start_at c.args.starts.now (c.loop-j.j - 1)) (get_or c.args.compact.widths (c.loop-j.j - 1) 0) (start_at c.args.starts.now c.args.k) (get_or c.args.compact.widths c.args.k 0) && share_bit (get_or c.args.compact.words (c.loop-j.j - 1) 0) (get_or c.args.compact.words c.args.k 0)) = ap₂ (λ (close shared : Bool). close && shared) c.too_close-close.ensures c.share_bit.ensures in
+    let clash_is : (c.too_close-close.result && c.share_bit.result) ≡ (too_close c.args.compact.guard (start_at c.args.starts.now (c.loop-j.j - 1)) (get_or c.args.compact.widths (c.loop-j.j - 1) 0) (start_at c.args.starts.now c.args.k) (get_or c.args.compact.widths c.args.k 0) && share_bit (get_or c.args.compact.words (c.loop-j.j - 1) 0) (get_or c.args.compact.words c.args.k 0))
+    = ap₂ (λ (close shared : Bool). close && shared) c.too_close-close.ensures c.share_bit.ensures in
     let a = c.args in
     let starts = a.starts.now in
     let j = c.loop-j.j in
-    let meets = close_clash a.compact (j - 1) (start_at starts (j - 1)) a.k (start_at starts a.k) (sym (clash_is) ∙ c.if-close-share_bit.true) in
+    let meets = close_clash a.compact (j - 1) (start_at starts (j - 1)) a.k (start_at starts a.k) (sym clash_is ∙ c.if-close-share_bit.true) in
     sym (ap not (c.loop-j.invariant.1 ∙ row_clash (problem_in a.compact) starts j a.k (start_at starts a.k) (omega arith) meets))
 
 pub loop-j-smaller : goal.loop-j-smaller
@@ -81,11 +82,12 @@ loop-j-smaller c = omega arith
 pub loop-j-preserved : goal.loop-j-preserved
 unfolding start_at
 loop-j-preserved c =
-    let clash_is : (c.too_close-close.result && c.share_bit.result) ≡ (too_close c.args.compact.guard (start_at c.args.starts.now (c.loop-j.j - 1)) (get_or c.args.compact.widths (c.loop-j.j - 1) 0) (start_at c.args.starts.now c.args.k) (get_or c.args.compact.widths c.args.k 0) && share_bit (get_or c.args.compact.words (c.loop-j.j - 1) 0) (get_or c.args.compact.words c.args.k 0)) = ap₂ (λ (close shared : Bool). close && shared) c.too_close-close.ensures c.share_bit.ensures in
+    let clash_is : (c.too_close-close.result && c.share_bit.result) ≡ (too_close c.args.compact.guard (start_at c.args.starts.now (c.loop-j.j - 1)) (get_or c.args.compact.widths (c.loop-j.j - 1) 0) (start_at c.args.starts.now c.args.k) (get_or c.args.compact.widths c.args.k 0) && share_bit (get_or c.args.compact.words (c.loop-j.j - 1) 0) (get_or c.args.compact.words c.args.k 0))
+    = ap₂ (λ (close shared : Bool). close && shared) c.too_close-close.ensures c.share_bit.ensures in
     let a = c.args in
     let starts = a.starts.now in
     let j = c.loop-j.j in
-    let clear = not_close_apart a.compact (j - 1) (start_at starts (j - 1)) a.k (start_at starts a.k) (sym (clash_is) ∙ c.if-close-share_bit.false) in
+    let clear = not_close_apart a.compact (j - 1) (start_at starts (j - 1)) a.k (start_at starts a.k) (sym clash_is ∙ c.if-close-share_bit.false) in
     (omega arith, c.loop-j.invariant.1 ∙ row_clear (problem_in a.compact) starts j a.k (start_at starts a.k) (omega arith) clear)
 
 pub returns : goal.returns

@@ -121,7 +121,7 @@ returns-then-not-end_within c =
     let new = subst (λ (k : ℕ). given-in rows k ≡ false) (sym is_who) (given_at rows given who false so_far.given_held (omega arith) c.if-given-who.false) in
     let start = c.number_in-start.result in
     let width = ap (λ (d : DemandView). width_of d) (ap (demand_at v.demands) is_who ∙ demand_shown request who (omega arith)) in
-    let end : request.band.slots < start + c.width_of-width.result = leb-false _ _ ((sym c.end_within.ensures ∙ c.if-not-end_within.true)) in
+    let end : request.band.slots < start + c.width_of-width.result = leb-false _ _ (sym c.end_within.ensures ∙ c.if-not-end_within.true) in
     c.no_rows-then-not-end_within.ensures ∙ ap pack_rows (sym (so_far_refused v s at given starts c.requires.file_len_bound so_far (EndAbove at) more
     (row_decides v s at rows field ∙ row_above v at rows (row_in v s at) here new (omega (arith, width, c.width_of-width.ensures, end, c.number_in-start.ensures)))))
 
@@ -160,7 +160,7 @@ loop-at-preserved c =
     let new = subst (λ (k : ℕ). given-in rows k ≡ false) (sym is_who) (given_at rows given who false so_far.given_held (omega arith) c.if-given-who.false) in
     let start = c.number_in-start.result in
     let width = ap (λ (d : DemandView). width_of d) (ap (demand_at v.demands) is_who ∙ demand_shown request who (omega arith)) in
-    let end : start + c.width_of-width.result ≤ request.band.slots = leb-true _ _ ((sym c.end_within.ensures ∙ c.if-not-end_within.false)) in
+    let end : start + c.width_of-width.result ≤ request.band.slots = leb-true _ _ (sym c.end_within.ensures ∙ c.if-not-end_within.false) in
     let ends = row_end s at (field_holds s at 4 4 4 field) in
     let sound = row_decides v s at rows field ∙ row_sound v at rows (row_in v s at) here new (omega (arith, width, c.width_of-width.ensures, end, c.number_in-start.ensures)) in
     let next = so_far_more v s at given starts c.requires.file_len_bound so_far more sound ends.0 ends.1 (omega arith) in (

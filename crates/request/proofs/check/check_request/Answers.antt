@@ -1,3 +1,4 @@
+-- `request::check::check_request` meets its contract: at each turn the first k demands have passed, and the answer is what the others give.
 use mathlib.Core.Path.{refl, sym, ◌∙◌}
 use native.Mathlib.Omega.{arith}
 use lib.Seq.{length-take-le}

@@ -1,3 +1,4 @@
+-- `request::route::sound_route` meets its contract: at each turn the walk has come along the first p links.
 use Prim.Native.Nat.{ℕ, min}
 use mathlib.Core.Path.{◌≡◌, sym, ◌∙◌}
 use native.Mathlib.Omega.{arith}

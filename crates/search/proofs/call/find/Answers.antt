@@ -35,5 +35,6 @@ walk_orders-walked-requires c =
 
 pub returns : goal.returns
 returns c =
-    let walked : let a = c.args in Told a.compact.count (walk (problem_in a.compact) a.limit a.need a.compact.count [] [] (listing a.compact.count) (fresh (a.compact.slots + 1))) c.walk_orders-walked.result = let compact = c.args.compact in subst (λ (P : Problem). Told compact.count (walk P c.args.limit c.args.need compact.count [] [] (listing compact.count) (fresh (compact.slots + 1))) c.walk_orders-walked.result) (ap (λ (t : List (List Bool)). problem_of t compact.widths compact.guard) c.meeting_table.ensures ∙ same_problem compact c.requires.small c.requires.count_bound) c.walk_orders-walked.ensures in
-    found_by_walk c.args.compact c.args.need c.args.limit c.found_by_walk.result c.walk_orders-walked.result (omega arith) (omega arith) c.requires.count_bound (starts_whole c.walk_orders-walked.result _ c.walk_orders-walked.type_inv) (order_whole c.walk_orders-walked.result _ c.walk_orders-walked.type_inv) (walked) c.found_by_walk.ensures
+    let walked : let a
+    = c.args in Told a.compact.count (walk (problem_in a.compact) a.limit a.need a.compact.count [] [] (listing a.compact.count) (fresh (a.compact.slots + 1))) c.walk_orders-walked.result = let compact = c.args.compact in subst (λ (P : Problem). Told compact.count (walk P c.args.limit c.args.need compact.count [] [] (listing compact.count) (fresh (compact.slots + 1))) c.walk_orders-walked.result) (ap (λ (t : List (List Bool)). problem_of t compact.widths compact.guard) c.meeting_table.ensures ∙ same_problem compact c.requires.small c.requires.count_bound) c.walk_orders-walked.ensures in
+    found_by_walk c.args.compact c.args.need c.args.limit c.found_by_walk.result c.walk_orders-walked.result (omega arith) (omega arith) c.requires.count_bound (starts_whole c.walk_orders-walked.result _ c.walk_orders-walked.type_inv) (order_whole c.walk_orders-walked.result _ c.walk_orders-walked.type_inv) walked c.found_by_walk.ensures
