@@ -63,7 +63,7 @@ rows_of_the_table() {
 
 # The statement of a theorem: from its name to the line before its first clause. Laws stand beside the definitions, or in proofs/.
 statement_of() {
-    find crates/"$1"/specs crates/"$1"/proofs -maxdepth 1 -name '*Laws.antt' -print0 | sort -z | xargs -0 awk -v name="$2" '
+    find crates/"$1" -maxdepth 2 \( -path '*/specs/*' -o -path '*/proofs/*' \) -name '*Laws.antt' -print0 | sort -z | xargs -0 awk -v name="$2" '
         $0 ~ "^ *pub " name " :" { on = 1 }
         on && ($0 ~ "^ *" name " " || $0 ~ "^ *unfolding ") { exit }
         on'

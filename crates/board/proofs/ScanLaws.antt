@@ -16,8 +16,20 @@ use Rattle.theory.proofs.BlockerLaws.{named_blocker}
 use Rattle.theory.specs.inner.Clashes.{ClashAt, Named}
 use Rattle.theory.specs.inner.Scan.{next_start, rows_ahead}
 use Rattle.theory.proofs.ScanLaws.{next_nil, next_apart, next_clash, next_from, next_fits, next_same, next_lowest, scan_found, ahead_falls}
+use Rattle.std.specs.Prelude.{length}
+use Rattle.std.specs.List.{zip, AllWithin, HoldsAt}
+use Rattle.std.proofs.Common.{◌⊎◌}
+use Rattle.std.proofs.lemmas.Slice.Zip.{length-zip, get_or-zip}
 use Rattle.board.specs.Board.{number_rows}
 use Rattle.board.specs.inner.Near.{near_problem, Blocks, ClearTo}
+
+-- where a block ends and starts says that it is in the way of a demand from s up to a reach
+abbrev pub InTheWay : ℕ → ℕ → ℕ × ℕ → Type 0
+InTheWay s reach p = (s < p.0) × (p.1 < reach)
+
+-- and that it is not
+abbrev pub Clear : ℕ → ℕ → ℕ × ℕ → Type 0
+Clear s reach p = (p.0 ≤ s) ⊎ (reach ≤ p.1)
 
 -- the row of a number that is there
 pub row_there : (starts : List ℕ) (n j : ℕ) → j < n → Memᴰ (record { who = j; at = get_or starts j 0 }) (number_rows n starts)
@@ -123,6 +135,34 @@ module _ (past starts : List ℕ) (n span : ℕ) (blocks : Blocks past starts n)
   unfolding number_rows
   next_block j s next end h e k = rw (add-one j, e, k) (sym (next_row j s h))
 
+  module _ (j s next : ℕ) (h : j < n) (looked : next ≡ next_start (near_problem past starts span) (number_rows j starts) 200 s) where
+    -- one turn of a look: the end of a block that starts before the reach counts
+    pub next_begun : get_or starts j 0 < s + span →
+        max next (get_or past j 0) ≡ next_start (near_problem past starts span) (number_rows (j + 1) starts) 200 s
+    unfolding near_problem number_rows
+    next_begun begun =
+        let Q : Problem = near_problem past starts span in
+        let r : Row = record { who = j; at = get_or starts j 0 } in
+        let rows : List Row = number_rows j starts in
+        let rises : s ≤ next_start Q rows 200 s = next_from Q rows 200 s in
+        by_test (ltb s (get_or past j 0))
+        (λ ahead.
+        let above : s < get_or past j 0 = ltb-true s (get_or past j 0) ahead in
+        rw (add-one j, next_clash Q r rows 200 s (block_clashes j s h above begun))
+        (omega (arith, looked, block_end j h (omega arith))))
+        (λ over.
+        let below : get_or past j 0 ≤ s = ltb-false s (get_or past j 0) over in
+        rw (add-one j, next_apart Q r rows 200 s (block_over j s h below))
+        (omega (arith, looked, rises)))
+
+    -- that of one that starts there or later does not
+    pub next_later : s + span ≤ get_or starts j 0 → next ≡ next_start (near_problem past starts span) (number_rows (j + 1) starts) 200 s
+    unfolding number_rows
+    next_later later =
+        rw
+        (add-one j, next_apart (near_problem past starts span) (record { who = j; at = get_or starts j 0 }) (number_rows j starts) 200 s (block_later j s h later))
+        looked
+
   -- the first block in the way is the blocker
   pub first_blocks : (s j : ℕ) → j < n → ClearTo past starts span s j → apart (near_problem past starts span) j (get_or starts j 0) 200 s ≡ false →
       blocked_by j ≡ blocker_at (near_problem past starts span) (number_rows n starts) 200 s
@@ -146,6 +186,36 @@ module _ (past starts : List ℕ) (n span : ℕ) (blocks : Blocks past starts n)
       let (there, clash) = clash_number (near_problem past starts span) starts n s b c in
       not_both (apart (near_problem past starts span) b (get_or starts b 0) 200 s) (clear b there) clash)
 
+  module _ (s : ℕ) (long : length past ≡ 200) (whole : length starts ≡ n) where
+    -- as many ends and starts as blocks
+    pub pairs : length (zip past starts) ≡ n
+    pairs = omega (arith, length-zip past starts, blocks.few, long, whole)
+
+    -- a block's end and start are the pair of its number
+    pair_is : (j : ℕ) → j < n → get_or (zip past starts) j (0, 0) ≡ (get_or past j 0, get_or starts j 0)
+    pair_is j h = get_or-zip past starts j (0, 0) (omega (arith, blocks.few)) (omega arith)
+
+    -- where no pair before j is in the way no block is
+    clear_pairs : (j : ℕ) → j ≤ n → AllWithin (Clear s (s + span)) (zip past starts) 0 j → ClearTo past starts span s j
+    unfolding ClearTo
+    clear_pairs j most clear =
+        λ k h.
+        let there : k < n = omega arith in
+        ⊎_elim (block_over k s there) (block_later k s there) (rw (pair_is k there) at (clear k (0, 0) (omega arith) h))
+
+    -- so the first pair in the way is the blocker's
+    pub pair_blocks : (j : ℕ) → (j < length (zip past starts)) × HoldsAt (InTheWay s (s + span)) (zip past starts) j × AllWithin (Clear s (s + span)) (zip past starts) 0 j →
+        blocked_by j ≡ blocker_at (near_problem past starts span) (number_rows n starts) 200 s
+    pair_blocks j (within, here, clear) =
+        let h : j < n = omega (arith, pairs) in
+        let (ahead, begun) = rw (pair_is j h) at (here (0, 0)) in
+        first_blocks s j h (clear_pairs j (omega arith) clear) (block_clashes j s h ahead begun)
+
+    -- and where no pair is in the way nobody is
+    pub pairs_clear : AllWithin (Clear s (s + span)) (zip past starts) 0 (length (zip past starts)) →
+        nobody ≡ blocker_at (near_problem past starts span) (number_rows n starts) 200 s
+    pairs_clear clear = none_blocks s (clear_pairs n (omega arith) (rw pairs at clear))
+
 module _ (P : Problem) (rows : List Row) (i : ℕ) where
   -- nobody keeps a demand from starting below 0
   pub below_zero : (s : ℕ) → s ≡ 0 → nobody ≡ blocker_below P rows i s
@@ -154,10 +224,10 @@ module _ (P : Problem) (rows : List Row) (i : ℕ) where
   below_zero (suc s) e = absurd (omega arith)
 
   -- who keeps it from starting below another start is who clashes one lower
-  pub below_higher : (s : ℕ) → (s ≡ 0 → ⊥) → blocker_at P rows i (s - 1) ≡ blocker_below P rows i s
+  pub below_higher : (s below : ℕ) → s ≡ below + 1 → blocker_at P rows i below ≡ blocker_below P rows i s
   unfolding blocker_below
-  below_higher zero h = absurd (h refl)
-  below_higher (suc s) h = ap (blocker_at P rows i) (omega arith)
+  below_higher zero below h = absurd (omega arith)
+  below_higher (suc s) below h = ap (blocker_at P rows i) (omega arith)
 
 module _ (past starts : List ℕ) (span s : ℕ) where
   -- no block is before the first

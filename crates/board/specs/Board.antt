@@ -1,11 +1,8 @@
 -- One demand placed beside what stands: what stands as a problem, where the demand starts, and who keeps it from starting lower.
-use Rattle.std.specs.Prelude.{ℕ, zero, suc, ◌-◌, min, Bool, false, ◌&&◌, List, [], ◌∷◌, leb, ltb, get_or}
+use Rattle.std.specs.Prelude.{ℕ, zero, suc, ◌-◌, min, Bool, false, ◌&&◌, List, [], ◌∷◌, leb, ltb, get_or, Option, Some, None}
 use Rattle.std.proofs.Math.Bool.{cond}
 use Rattle.theory.specs.Problem.{Problem, Row, end_of, lowest}
 use Rattle.theory.specs.Blocker as theory
-use Rattle.board.specs.declared.Spot.TheVariants.{At, Nowhere}
-use Rattle.board.specs.declared.Blocker.{Blocker}
-use Rattle.board.specs.declared.Blocker.TheVariants.{Nobody, Number}
 use Rattle.board.specs.declared.Placement.{Placement}
 
 -- the problem of one demand more, which has the number 200: a lower number holds the slots from its start up to its end, and shares a
@@ -24,14 +21,14 @@ number_rows zero starts = []
 number_rows (suc j) starts = record { who = j; at = get_or starts j 0 } ∷ number_rows j starts
 
 -- the blocker in the call's words
-unfoldable pub blocker_told : theory.Blocker → Blocker
-blocker_told theory.nobody = Nobody
-blocker_told (theory.blocked_by j) = Number j
+unfoldable pub blocker_told : theory.Blocker → Option ℕ
+blocker_told theory.nobody = None
+blocker_told (theory.blocked_by j) = Some j
 
 -- the blocker as an entry of a lent buffer: 65535 says that there is none
-unfoldable pub entry_of : Blocker → ℕ
-entry_of Nobody = 65535
-entry_of (Number j) = j
+unfoldable pub entry_of : Option ℕ → ℕ
+entry_of None = 65535
+entry_of (Some j) = j
 
 module _ (P : Problem) (rows : List Row) (i slots : ℕ) where
   -- who is in the way at the last start that ends within the slots; nobody where the demand is wider than all of them
@@ -44,8 +41,8 @@ module _ (P : Problem) (rows : List Row) (i slots : ℕ) where
   unfolding end_of lowest last_blocker blocker_told
   placed_beside =
       cond (leb (end_of P i (lowest P rows i)) slots)
-      (record { spot = At (lowest P rows i); blocker = blocker_told (theory.blocker_below P rows i (lowest P rows i)) })
-      (record { spot = Nowhere; blocker = blocker_told last_blocker })
+      (record { spot = Some (lowest P rows i); blocker = blocker_told (theory.blocker_below P rows i (lowest P rows i)) })
+      (record { spot = None; blocker = blocker_told last_blocker })
 
 -- the answer of the call: beside the first `count` numbers, of 200 at most
 unfoldable pub placed_one : List Bool → List ℕ → List ℕ → ℕ → ℕ → ℕ → ℕ → Placement

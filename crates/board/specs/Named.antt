@@ -1,7 +1,5 @@
 -- What placing one demand promises, in the words of who places it: the number that is told is in the way, and of those the lowest.
-use Rattle.std.specs.Prelude.{ℕ, suc, ◌+◌, ◌-◌, ◌≤◌, ◌<◌, min, Bool, true, false, List, ◌≡◌, get_or}
-use Rattle.board.specs.declared.Spot.TheVariants.{At, Nowhere}
-use Rattle.board.specs.declared.Blocker.TheVariants.{Nobody, Number}
+use Rattle.std.specs.Prelude.{ℕ, suc, ◌+◌, ◌-◌, ◌≤◌, ◌<◌, min, Bool, true, false, List, ◌≡◌, get_or, Some, None}
 use Rattle.board.specs.declared.Placement.{Placement}
 
 -- number j clashes with a demand that starts at s: the two share a link, the number holds a slot, and neither ends, the guard included,
@@ -26,8 +24,8 @@ pub record KeepsAbove (meets : List Bool) (starts ends : List ℕ) (count width 
 -- a placement tells the right blocker: at start 0 nobody; at a higher start the number that keeps the demand from starting lower; nowhere
 -- the number in the way at the last start that ends within the slots. A demand wider than all of them has no start, and nobody is told
 pub record PlacedWell (meets : List Bool) (starts ends : List ℕ) (count width guard slots : ℕ) (p : Placement) : Type 0 where
-  pub at_0 : p.spot ≡ At 0 → p.blocker ≡ Nobody
-  pub at_higher : (s : ℕ) → p.spot ≡ At (suc s) → (j : ℕ) × (p.blocker ≡ Number j) × KeepsAbove meets starts ends count width guard s j
-  pub nowhere : p.spot ≡ Nowhere → width ≤ slots →
-      (j : ℕ) × (p.blocker ≡ Number j) × InWay meets starts ends count width guard (slots - width) j
-  pub too_wide : slots < width → (p.spot ≡ Nowhere) × (p.blocker ≡ Nobody)
+  pub at_0 : p.spot ≡ Some 0 → p.blocker ≡ None
+  pub at_higher : (s : ℕ) → p.spot ≡ Some (suc s) → (j : ℕ) × (p.blocker ≡ Some j) × KeepsAbove meets starts ends count width guard s j
+  pub nowhere : p.spot ≡ None → width ≤ slots →
+      (j : ℕ) × (p.blocker ≡ Some j) × InWay meets starts ends count width guard (slots - width) j
+  pub too_wide : slots < width → (p.spot ≡ None) × (p.blocker ≡ None)

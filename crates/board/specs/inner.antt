@@ -1,3 +1,4 @@
 -- Definitions that no promise speaks of.
+pub mod Beside
 pub mod Near
 pub mod Standing

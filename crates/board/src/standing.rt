@@ -1,27 +1,53 @@
 // What stands, made ready for the scan.
-ghost use Rattle.std.specs.Prelude.{◌≡◌, ◌+◌, ◌-◌, ◌≤◌, min, cond, ltb};
-ghost use Rattle.board.specs.inner.Near.{PastEnds};
+ghost use Rattle.std.specs.Prelude.{◌≡◌, ◌+◌, ◌-◌, ◌≤◌, ◌<◌, min, length, take};
+ghost use Rattle.board.specs.inner.Near.{Blocks, PastEnds};
 
-// How many numbers are looked at, where so many are said to be there.
-pub(crate) fn at_most_200(count: usize) -> usize
-    ensures { result ≡ min count 200 }
-{
-    if count < 200 { count } else { 200 }
+// What stands, as the scan sees it: blocks of slots, by number, and how far the demand to place beside them reaches.
+#[derive(Drop)]
+pub(crate) struct Near<'a> {
+    // Where each block ends, the guard included; 0 for one that is not in the way.
+    // Kept as it is: the starts stand in an array of their own beside it, since `place_one` is lent them so and they are not copied.
+    pub(crate) past: [u32; 200],
+    pub(crate) starts: &'a [u16],
+    // The demand's width and the guard above it.
+    pub(crate) span: u32,
+    ghost blocks: { Blocks past starts.now (length starts.now) },
+    ghost narrow: { span < 131072 },
+}
+
+impl<'a> Near<'a> {
+    // What stands beside a demand: the first `count` numbers, of 200 at most.
+    // Kept as it is: six parameters, since they are what the public `place_one` is given; a struct would be filled from them here alone.
+    pub(crate) fn beside(
+        meets: &[bool; 200],
+        starts: &'a [u16; 200],
+        ends: &[u16; 200],
+        count: usize,
+        width: u16,
+        guard: u16,
+    ) -> Near<'a>
+        ensures past { PastEnds meets.now starts.now ends.now guard (min count 200) result.past }
+        ensures starts { result.starts.now ≡ take (min count 200) starts.now }
+        ensures span { result.span ≡ width + guard }
+    {
+        let numbers = count.min(200);
+        Near {
+            past: past_ends(meets, starts, ends, numbers, guard),
+            starts: &starts[..numbers],
+            span: u32::from(width) + u32::from(guard),
+        }
+    }
 }
 
 // The first start at which a demand ends above the slots: 0 for one that is wider.
 pub(crate) fn first_above(width: u16, slots: u16) -> u32
     ensures { result ≡ (slots + 1) - width }
 {
-    if slots < width {
-        0
-    } else {
-        (slots - width) as u32 + 1
-    }
+    (u32::from(slots) + 1).saturating_sub(u32::from(width))
 }
 
 // Where the numbers that are in the way of a demand end, the guard included; 0 for one that it does not meet, or that holds nothing.
-pub(crate) fn past_ends(
+fn past_ends(
     meets: &[bool; 200],
     starts: &[u16; 200],
     ends: &[u16; 200],
@@ -31,33 +57,14 @@ pub(crate) fn past_ends(
     requires { numbers ≤ 200 }
     ensures { PastEnds meets.now starts.now ends.now guard numbers result }
 {
-    let mut past = [0u32; 200];
-    let mut j: usize = 0;
-    while j < numbers {
-        let end = ends[j];
-        past[j] = slot_if(meets[j] & (starts[j] < end), sum(end, guard));
-        j += 1;
+    let mut past = [0; 200];
+    for j in 0..numbers {
+        // Kept as it is: without this `else` the proof did not close, since the invariant says nothing of the entries still to come.
+        past[j] = if meets[j] && starts[j] < ends[j] {
+            u32::from(ends[j]) + u32::from(guard)
+        } else {
+            0
+        };
     }
     past
-}
-
-// A slot where a test holds, else 0.
-pub(crate) fn slot_if(test: bool, slot: u32) -> u32
-    ensures { result ≡ cond test slot 0 }
-{
-    if test { slot } else { 0 }
-}
-
-// Two numbers of slots added: a sum of 32 bits does not wrap.
-pub(crate) fn sum(a: u16, b: u16) -> u32
-    ensures { result ≡ a + b }
-{
-    a as u32 + b as u32
-}
-
-// A start lies below a slot.
-pub(crate) fn starts_below(start: u16, slot: u32) -> bool
-    ensures { result ≡ ltb start slot }
-{
-    (start as u32) < slot
 }

@@ -1,6 +1,7 @@
 -- A certificate keeps its promise: that pairs and threes pass is enough, and then no allowed plan ends lower.
+use Rattle.refusal.specs.declared.Refusal.{Refusal}
 use Prim.Native.Nat.{ℕ, zero, suc, ◌+◌, ◌-◌, ◌≤◌, ◌<◌}
-use Rattle.std.specs.Prelude.{Bool, true, cond, ◌&&◌, ◌||◌, List, [], ◌∷◌, ◌≡◌, refl, leb, eqb, length}
+use Rattle.std.specs.Prelude.{Bool, true, cond, ◌&&◌, ◌||◌, List, [], ◌∷◌, ◌≡◌, refl, leb, eqb, length, Result, Ok, Err}
 use Rattle.std.proofs.Math.Bool.{false, not}
 use Rattle.std.proofs.lemmas.Bool.{false≢true}
 use Rattle.std.proofs.Math.Logic.{⊎_elim}
@@ -18,8 +19,6 @@ use Rattle.theory.proofs.TestLaws.{by_test, or_first, or_second}
 use Rattle.theory.proofs.TriedLaws.{below_or_not}
 use Rattle.theory.specs.Certificate.{Certificate, certified_end}
 use Rattle.theory.proofs.CertificateLaws.{certificate_holds, certified_below, threes_enough}
-use Rattle.request.specs.declared.Checked.{Checked}
-use Rattle.request.specs.declared.Checked.TheVariants as checked
 use Rattle.request.specs.declared.Request.{Request}
 use Rattle.request.specs.View.{View, view}
 use Rattle.request.specs.Check.{must}
@@ -33,12 +32,10 @@ use Rattle.request.proofs.LimitsLaws.{sound_limits}
 use Rattle.meeting.specs.Plan.{AllowedPlan, end_of_plan, start_at}
 use Rattle.meeting.specs.PlanLaws.{slots_to_ends}
 use Rattle.meeting.specs.PlanEndLaws.{plan_end_is}
-use Rattle.plan.specs.declared.CheckReply.{CheckReply}
-use Rattle.plan.specs.declared.CheckReply.TheVariants.{Accepted, Refused as Rejected}
 use Rattle.plan.specs.CheckStarts.{starts_reply}
 use Rattle.plan.specs.AcceptableLaws.{accepted_allowed}
 use Rattle.certify.specs.declared.Certified.{Certified}
-use Rattle.certify.specs.declared.Certified.TheVariants.{Best, AtLeast, Refused}
+use Rattle.certify.specs.declared.Certified.TheVariants.{Best, AtLeast}
 use Rattle.certify.specs.Reply.{weight_of, check_weights, some_from, weighs_beside, heavy_three, heavy_with, check_sets, check_certificate, sum_of, low_of, end_told, told_after, certified_with, after_plan, certify_reply, certified_told}
 use Rattle.certify.specs.inner.Sets.{checked_in}
 use Rattle.certify.specs.ReplyLaws.{passed_shape, passed_rest}
@@ -46,7 +43,7 @@ use Rattle.certify.specs.PlanLaws.{accepted_sound}
 use Rattle.certify.specs.Promise.{NoneBelow, PlanEnds, Promised}
 
 -- no weight is above a
-weights_light : (a k : ℕ) (weights : List ℕ) → check_weights a k weights ≡ checked.Sound → (i : ℕ) → i < length weights → get_or weights i 0 ≤ a
+weights_light : (a k : ℕ) (weights : List ℕ) → check_weights a k weights ≡ Ok tt → (i : ℕ) → i < length weights → get_or weights i 0 ≤ a
 unfolding check_weights
 weights_light a k [] passes i h = absurd (omega arith)
 weights_light a k (w ∷ weights) passes zero h =
@@ -71,7 +68,7 @@ and_rest false q e h = absurd (false≢true h)
 
 module _ (P : Problem) (weights : List ℕ) (a K : ℕ) where
   -- no demand is the first of a heavy pair or three
-  sets_light : (i n : ℕ) → check_sets P weights a K i n ≡ checked.Sound → (j : ℕ) → i ≤ j → j < i + n → heavy_with P weights a K j ≡ false
+  sets_light : (i n : ℕ) → check_sets P weights a K i n ≡ Ok tt → (j : ℕ) → i ≤ j → j < i + n → heavy_with P weights a K j ≡ false
   unfolding check_sets
   sets_light i zero passes j low high = absurd (omega arith)
   sets_light i (suc n) passes j low high =
@@ -138,7 +135,7 @@ module _ (P : Problem) (weights : List ℕ) (a K : ℕ) where
         (λ (none-i : get_or weights i 0 ≤ 0). omega (arith, pairs_light j k jk inside ejk))
         (below_or_not 0 (get_or weights i 0))
 
-module _ (v : View) (weights : List ℕ) (a : ℕ) (passes : check_certificate v weights a ≡ checked.Sound) where
+module _ (v : View) (weights : List ℕ) (a : ℕ) (passes : check_certificate v weights a ≡ Ok tt) where
   -- a certificate that passed its test is one
   pub passed_certificate : Certificate (problem_of v) v.demand_count (weight_of weights) a
   unfolding weight_of check_certificate checked_in
@@ -171,19 +168,19 @@ unfolding NoneBelow
 none_own v low starts allowed proves = proves starts allowed
 
 -- what is told of an accepted plan keeps its promise
-told_kept : (v : View) (starts weights : List ℕ) (a end : ℕ) → PlanEnds v starts end → SoundRequest v → Limits v → (c : Checked) →
+told_kept : (v : View) (starts weights : List ℕ) (a end : ℕ) → PlanEnds v starts end → SoundRequest v → Limits v → (c : Result Unit Refusal) →
     check_certificate v weights a ≡ c → Promised v starts (told_after c (end_told (low_of v weights a) end))
 unfolding told_after end_told Promised
-told_kept v starts weights a end plan sound limits (checked.Refused why) is = tt
-told_kept v starts weights a end plan sound limits checked.Sound is =
+told_kept v starts weights a end plan sound limits (Err why) is = tt
+told_kept v starts weights a end plan sound limits (Ok _) is =
     let low : ℕ = low_of v weights a in
     let proves : NoneBelow v low = certificate_proves v weights a is sound limits in
     by_test (eqb low end)
     (λ t.
-    subst (λ (b : Bool). Promised v starts (cond b (Best end) (AtLeast low end))) (sym t)
+    subst (λ (b : Bool). Promised v starts (Ok (cond b (Best end) (AtLeast low end)))) (sym t)
     (plan, subst (NoneBelow v) (eqb-true low end t) proves))
     (λ f.
-    subst (λ (b : Bool). Promised v starts (cond b (Best end) (AtLeast low end))) (sym f)
+    subst (λ (b : Bool). Promised v starts (Ok (cond b (Best end) (AtLeast low end)))) (sym f)
     (plan, proves, above low end (eqb-false low end f) (reaches low proves)))
   where
     above : (low end : ℕ) → (low ≡ end → ⊥) → low ≤ end → low < end
@@ -193,11 +190,11 @@ told_kept v starts weights a end plan sound limits checked.Sound is =
     reaches low proves = subst (λ (e : ℕ). low ≤ e) plan.ends (none_own v low starts plan.acceptable.plan_allowed proves)
 
 -- of a plan that was refused nothing is said
-after_kept : (v : View) → Counted v → (starts weights : List ℕ) (a : ℕ) (r : CheckReply) → starts_reply v starts ≡ r →
+after_kept : (v : View) → Counted v → (starts weights : List ℕ) (a : ℕ) (r : Result ℕ Refusal) → starts_reply v starts ≡ r →
     Promised v starts (after_plan v weights a r)
 unfolding after_plan certified_with Promised
-after_kept v counted starts weights a (Rejected why) is = tt
-after_kept v counted starts weights a (Accepted end) is =
+after_kept v counted starts weights a (Err why) is = tt
+after_kept v counted starts weights a (Ok end) is =
     let sound : SoundRequest v = check_sound v counted (accepted_sound v starts end is) in
     let good = accepted_allowed v counted starts end is in
     told_kept v starts weights a end (record { acceptable = good.0; ends = sym good.1 })
@@ -214,20 +211,20 @@ pub certify_promise : (q : Request) → Whole q → (starts weights : List ℕ) 
 certify_promise q whole starts weights a = certify_kept (view q) (whole_counted q whole) starts weights a
 
 -- two results that meet the contract are equal
-pub same_certify : (v : View) (starts weights : List ℕ) (a : ℕ) (r r' : Certified) →
+pub same_certify : (v : View) (starts weights : List ℕ) (a : ℕ) (r r' : Result Certified Refusal) →
     r ≡ certify_reply v starts weights a → r' ≡ certify_reply v starts weights a → r ≡ r'
 same_certify v starts weights a r r' h k = h ∙ sym k
 
 -- two answers that are told alike are the same
-pub certified_told_whole : (r r' : Certified) → certified_told r ≡ certified_told r' → r ≡ r'
+pub certified_told_whole : (r r' : Result Certified Refusal) → certified_told r ≡ certified_told r' → r ≡ r'
 unfolding certified_told
-certified_told_whole (Best e) (Best e') h = ap (λ (t : Told ℕ). Best (get_or t.1 1 0)) h
-certified_told_whole (Best e) (AtLeast low e') h = absurd (let z : ◌≡◌ {A = ℕ} 1 2 = ap (λ (t : Told ℕ). get_or t.1 0 0) h in omega arith)
-certified_told_whole (Best e) (Refused why) h = absurd (refusal_told_fault why _ _ (sym h))
-certified_told_whole (AtLeast low e) (Best e') h = absurd (let z : ◌≡◌ {A = ℕ} 2 1 = ap (λ (t : Told ℕ). get_or t.1 0 0) h in omega arith)
-certified_told_whole (AtLeast low e) (AtLeast low' e') h =
-    ap₂ AtLeast (ap (λ (t : Told ℕ). get_or t.1 1 0) h) (ap (λ (t : Told ℕ). get_or t.1 2 0) h)
-certified_told_whole (AtLeast low e) (Refused why) h = absurd (refusal_told_fault why _ _ (sym h))
-certified_told_whole (Refused why) (Best e) h = absurd (refusal_told_fault why _ _ h)
-certified_told_whole (Refused why) (AtLeast low e) h = absurd (refusal_told_fault why _ _ h)
-certified_told_whole (Refused why) (Refused why') h = ap Refused (refusal_told_whole why why' h)
+certified_told_whole (Ok (Best e)) (Ok (Best e')) h = ap (λ (t : Told ℕ). Ok (Best (get_or t.1 1 0))) h
+certified_told_whole (Ok (Best e)) (Ok (AtLeast low e')) h = absurd (let z : ◌≡◌ {A = ℕ} 1 2 = ap (λ (t : Told ℕ). get_or t.1 0 0) h in omega arith)
+certified_told_whole (Ok (Best e)) (Err why) h = absurd (refusal_told_fault why _ _ (sym h))
+certified_told_whole (Ok (AtLeast low e)) (Ok (Best e')) h = absurd (let z : ◌≡◌ {A = ℕ} 2 1 = ap (λ (t : Told ℕ). get_or t.1 0 0) h in omega arith)
+certified_told_whole (Ok (AtLeast low e)) (Ok (AtLeast low' e')) h =
+    ap₂ (λ (low end : ℕ). Ok (AtLeast low end)) (ap (λ (t : Told ℕ). get_or t.1 1 0) h) (ap (λ (t : Told ℕ). get_or t.1 2 0) h)
+certified_told_whole (Ok (AtLeast low e)) (Err why) h = absurd (refusal_told_fault why _ _ (sym h))
+certified_told_whole (Err why) (Ok (Best e)) h = absurd (refusal_told_fault why _ _ h)
+certified_told_whole (Err why) (Ok (AtLeast low e)) h = absurd (refusal_told_fault why _ _ h)
+certified_told_whole (Err why) (Err why') h = ap Err (refusal_told_whole why why' h)

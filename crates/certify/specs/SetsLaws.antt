@@ -1,6 +1,6 @@
 -- The tests of a certificate, turn by turn: weights, pairs and threes.
 use Prim.Native.Nat.{ℕ, suc, ◌+◌, ◌-◌, ◌≤◌, ◌<◌}
-use Rattle.std.specs.Prelude.{Bool, true, false, ◌&&◌, ◌||◌, List, ◌≡◌, leb, length, get_or, drop}
+use Rattle.std.specs.Prelude.{Bool, true, false, ◌&&◌, ◌||◌, List, ◌≡◌, leb, length, get_or, drop, Ok, Err}
 use Rattle.std.proofs.Math.Bool.{not}
 use Rattle.std.proofs.Common.{sym, ◌∙◌, add-one, drop_of_length-le, drop-cons, le-leb, lt-ltb, le-ltb}
 use Rattle.std.proofs.Math.Path.{ap}
@@ -8,24 +8,23 @@ use native.Mathlib.Omega.{arith}
 use Rattle.std.proofs.lemmas.Bool.{lt-leb}
 use Rattle.refusal.specs.declared.Refusal.TheVariants.{NoCertificate}
 use Rattle.theory.specs.Problem.{Problem}
-use Rattle.request.specs.declared.Checked.TheVariants as checked
 use Rattle.request.specs.Check.{must}
 use Rattle.request.proofs.CheckLaws.{then_sound, then_refused}
 use Rattle.certify.specs.Reply.{weight_of, check_weights, some_from, heavy_with, check_sets}
 use Rattle.certify.specs.inner.Sets.{pair_heavy}
 
 -- a test that holds passes, one that does not refuses
-must_pass : (b : Bool) (k : ℕ) → b ≡ true → must b (NoCertificate k) ≡ checked.Sound
+must_pass : (b : Bool) (k : ℕ) → b ≡ true → must b (NoCertificate k) ≡ Ok tt
 unfolding must
 must_pass b k e = rw e
 
-must_fail : (b : Bool) (k : ℕ) → b ≡ false → must b (NoCertificate k) ≡ checked.Refused (NoCertificate k)
+must_fail : (b : Bool) (k : ℕ) → b ≡ false → must b (NoCertificate k) ≡ Err (NoCertificate k)
 unfolding must
 must_fail b k e = rw e
 
 module _ (a : ℕ) (weights : List ℕ) (i : ℕ) (within : i < length weights) where
   -- a weight above a is refused
-  pub weight_above : a < get_or weights i 0 → check_weights a i (drop i weights) ≡ checked.Refused (NoCertificate i)
+  pub weight_above : a < get_or weights i 0 → check_weights a i (drop i weights) ≡ Err (NoCertificate i)
   unfolding check_weights
   weight_above high =
       ap (check_weights a i) (drop-cons weights i 0 within)
@@ -42,7 +41,7 @@ module _ (a : ℕ) (weights : List ℕ) (i : ℕ) (within : i < length weights) 
       ∙ ap (λ (n : ℕ). check_weights a (i + 1) (drop n weights)) (sym (add-one i))
 
 -- behind the last weight all have passed
-pub weights_end : (a : ℕ) (weights : List ℕ) (i : ℕ) → length weights ≤ i → check_weights a i (drop i weights) ≡ checked.Sound
+pub weights_end : (a : ℕ) (weights : List ℕ) (i : ℕ) → length weights ≤ i → check_weights a i (drop i weights) ≡ Ok tt
 unfolding check_weights
 weights_end a weights i past = ap (check_weights a i) (drop_of_length-le weights {i = i} past)
 
@@ -75,7 +74,7 @@ module _ (P : Problem) (weights : List ℕ) (a K : ℕ) where
   weighs_something i some = ap (λ (b : Bool). b && some_from (pair_heavy P weights a K i) (i + 1) (K - (i + 1))) (lt-ltb 0 (get_or weights i 0) (omega (arith, some)))
 
   -- the sets that begin with a demand: too heavy, or the next
-  pub set_heavy : (i : ℕ) → i < K → heavy_with P weights a K i ≡ true → check_sets P weights a K i (K - i) ≡ checked.Refused (NoCertificate i)
+  pub set_heavy : (i : ℕ) → i < K → heavy_with P weights a K i ≡ true → check_sets P weights a K i (K - i) ≡ Err (NoCertificate i)
   unfolding check_sets
   set_heavy i inside e =
       ap (check_sets P weights a K i) (let z : K - i ≡ suc (K - (i + 1)) = omega arith in z)
@@ -90,6 +89,6 @@ module _ (P : Problem) (weights : List ℕ) (a K : ℕ) where
       ∙ then_sound (must (not (heavy_with P weights a K i)) (NoCertificate i)) (check_sets P weights a K (i + 1) (K - (i + 1)))
       (must_pass (not (heavy_with P weights a K i)) i (ap not e))
 
-  pub sets_end : (i : ℕ) → K ≤ i → check_sets P weights a K i (K - i) ≡ checked.Sound
+  pub sets_end : (i : ℕ) → K ≤ i → check_sets P weights a K i (K - i) ≡ Ok tt
   unfolding check_sets
   sets_end i past = ap (check_sets P weights a K i) (let z : K - i ≡ 0 = omega arith in z)

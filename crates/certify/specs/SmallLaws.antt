@@ -1,11 +1,11 @@
 -- What a certificate tells of a request made small, it tells of the request.
+use Rattle.refusal.specs.declared.Refusal.{Refusal}
 use Prim.Native.Nat.{ℕ, zero, suc, ◌+◌}
-use Rattle.std.specs.Prelude.{not, List, ◌≡◌}
+use Rattle.std.specs.Prelude.{not, List, ◌≡◌, Result}
 use Rattle.std.proofs.Math.Path.{refl, ap}
 use Rattle.std.proofs.Common.{◌∙◌}
 use Rattle.refusal.specs.declared.Refusal.TheVariants.{NoCertificate}
 use Rattle.theory.specs.Problem.{Problem}
-use Rattle.request.specs.declared.Checked.{Checked}
 use Rattle.request.specs.View.{View}
 use Rattle.request.specs.Check.{then, must}
 use Rattle.request.specs.Sound.{SoundRequest}
@@ -28,7 +28,7 @@ module _ (c : Compact) (weights : List ℕ) (a K : ℕ) where
   pub checked_by_words : checked_in (sharing_in c.words) K weights a ≡ checked_in (problem_in c) K weights a
   unfolding checked_in
   checked_by_words =
-      ap (λ (sets : Checked). then (must (right_shape K weights a) (NoCertificate K)) (then (check_weights a 0 weights) sets)) (sets_by_words 0 K)
+      ap (λ (sets : Result Unit Refusal). then (must (right_shape K weights a) (NoCertificate K)) (then (check_weights a 0 weights) sets)) (sets_by_words 0 K)
 
 -- what is told of the small form of a sound request is told of the request
 pub small_told : (v : View) → SoundRequest v → Limits v → (c : Compact) → c ≡ compact_of v → (weights : List ℕ) (a end : ℕ) →

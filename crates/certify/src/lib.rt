@@ -11,66 +11,60 @@ ghost use Rattle.certify.specs.inner.Sets.{told_in};
 
 use certificate::check_certificate;
 use meeting::{Compact, compacted};
-use plan::{CheckReply, check_starts};
+use plan::check_starts;
 use refusal::Refusal;
-use request::{Checked, Request};
+use request::Request;
 
 mod certificate;
 
 // What a plan and a certificate tell: this end is the best there is; or no plan ends below the first number, and this one ends at the
-// second; or why one of the two is refused.
+// second.
 #[derive(Drop)]
 pub enum Certified {
     Best(u16),
     AtLeast(u32, u16),
-    Refused(Refusal),
 }
 
 // Tests a plan as its check does, then the certificate: a weight for each demand, by listing position, such that demands of which no
 // two share a link weigh at most `a` together, 1 or 2.
-pub fn certify(request: Request, starts: &[u16], weights: &[u8], a: u8) -> Certified
+pub fn certify(
+    request: Request,
+    starts: &[u16],
+    weights: &[u8],
+    a: u8,
+) -> Result<Certified, Refusal>
     ensures { result ≡ certify_reply (view request) starts.now weights.now a }
 {
-    let accepted = check_starts(request, starts);
-    match accepted {
-        CheckReply::Accepted(end) => told_by(compacted(request), end, weights, a),
-        CheckReply::Refused(why) => Certified::Refused(why),
-    }
+    let end = check_starts(request, starts)?;
+    told_by(&compacted(request), end, weights, a)
 }
 
 // What a certificate tells of an accepted plan that ends here.
-fn told_by(compact: Compact, end: u16, weights: &[u8], a: u8) -> Certified
-    requires { Small compact }
-    ensures { result ≡ told_in (problem_in compact) compact.guard compact.count weights.now a end }
+fn told_by(compact: &Compact, end: u16, weights: &[u8], a: u8) -> Result<Certified, Refusal>
+    requires { Small compact.now }
+    ensures { result ≡ told_in (problem_in compact.now) compact.now.guard compact.now.count weights.now a end }
 {
-    let words = compact.words;
-    let checked = check_certificate(&words, compact.count, weights, a);
-    if let Checked::Refused(why) = checked {
-        return Certified::Refused(why);
-    }
+    check_certificate(&compact.words, compact.count, weights, a)?;
     let sum = weighed_sum(compact, weights);
-    let low = shared_out(sum, a as u32, compact.guard as u32);
-    if low == end as u32 {
-        Certified::Best(end)
+    let low = shared_out(sum, u32::from(a), u32::from(compact.guard));
+    if low == u32::from(end) {
+        Ok(Certified::Best(end))
     } else {
-        Certified::AtLeast(low, end)
+        Ok(Certified::AtLeast(low, end))
     }
 }
 
 // The widths, each with its guard, as often as its demand weighs.
-fn weighed_sum(compact: Compact, weights: &[u8]) -> u32
-    requires small { Small compact }
-    requires weights_len { length weights.now ≡ compact.count }
-    ensures { (result ≡ weighed (problem_in compact) compact.guard (weight_of weights.now) (listing compact.count)) × (result < 100000000) }
+fn weighed_sum(compact: &Compact, weights: &[u8]) -> u32
+    requires small { Small compact.now }
+    requires weights_len { length weights.now ≡ compact.now.count }
+    ensures { (result ≡ weighed (problem_in compact.now) compact.now.guard (weight_of weights.now) (listing compact.now.count)) × (result < 100000000) }
 {
-    let count = compact.count;
-    let guard = compact.guard as u32;
-    let mut sum: u32 = 0;
-    let mut i: usize = 0;
-    while i < count {
+    let guard = u32::from(compact.guard);
+    let mut sum = 0;
+    for (i, &weight) in weights.iter().enumerate() {
         let width = compact.widths[i];
-        sum += weights[i] as u32 * (width as u32 + guard);
-        i += 1;
+        sum += u32::from(weight) * (u32::from(width) + guard);
     }
     sum
 }
@@ -80,6 +74,5 @@ fn shared_out(sum: u32, a: u32, guard: u32) -> u32
     requires { (1 ≤ a) × (a ≤ 2) × (sum < 100000000) }
     ensures { result ≡ certified_end guard a sum }
 {
-    let share = (sum + (a - 1)) / a;
-    if share < guard { 0 } else { share - guard }
+    sum.div_ceil(a).saturating_sub(guard)
 }

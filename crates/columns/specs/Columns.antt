@@ -1,7 +1,6 @@
 -- A request's numbers as columns: what each lent buffer holds afterwards, and what the two calls answer.
-use Rattle.std.specs.Prelude.{ℕ, List, [], ◌∷◌, ◌++◌, map, length}
-use Rattle.request.specs.declared.Checked.{Checked}
-use Rattle.request.specs.declared.Written.{Written}
+use Rattle.refusal.specs.declared.Refusal.{Refusal}
+use Rattle.std.specs.Prelude.{ℕ, List, [], ◌∷◌, ◌++◌, map, length, Result}
 use Rattle.request.specs.declared.Link.{Link}
 use Rattle.request.specs.declared.Asked.{Asked}
 use Rattle.request.specs.declared.Asked.TheVariants.{Width, Rate}
@@ -58,12 +57,12 @@ demand_rooms lent = length lent.idents ∷ length lent.widths ∷ length lent.ra
 -- ---- what is tested: 10 where a buffer has less room than its column has entries
 
 -- the request, then each buffer for the demands, K entries each
-unfoldable pub check_demand_columns : View → List ℕ → Checked
+unfoldable pub check_demand_columns : View → List ℕ → Result Unit Refusal
 unfolding then check check_rooms
 check_demand_columns v rooms = then (check v) (check_rooms v.demand_count rooms)
 
 -- the request, then the buffer of the links' nodes, that of the counts, and that of the routes
-unfoldable pub check_route_columns : View → ℕ → ℕ → ℕ → Checked
+unfoldable pub check_route_columns : View → ℕ → ℕ → ℕ → Result Unit Refusal
 unfolding then check check_room
 check_route_columns v ends_room hops_room routes_room =
     then (check v)
@@ -73,12 +72,12 @@ check_route_columns v ends_room hops_room routes_room =
 -- ---- what is answered
 
 -- the answer of `demand_columns`: how many demands there are
-unfoldable pub demand_reply : View → List ℕ → Written
+unfoldable pub demand_reply : View → List ℕ → Result ℕ Refusal
 unfolding check_demand_columns write_answer
 demand_reply v rooms = write_answer (check_demand_columns v rooms) v.demand_count
 
 -- the answer of `route_columns`: how many links all routes have
-unfoldable pub route_reply : View → ℕ → ℕ → ℕ → Written
+unfoldable pub route_reply : View → ℕ → ℕ → ℕ → Result ℕ Refusal
 unfolding check_route_columns write_answer route_links
 route_reply v ends_room hops_room routes_room =
     write_answer (check_route_columns v ends_room hops_room routes_room) (length (route_links v.demands))

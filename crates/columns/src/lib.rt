@@ -2,6 +2,7 @@
 // asks for and how many links its route has, of each link its two nodes, and the links of all routes.
 #![tactic(auto)]
 
+mod column;
 mod demands;
 mod routes;
 

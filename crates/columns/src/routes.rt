@@ -1,12 +1,13 @@
 // The links' nodes and the demands' routes.
-ghost use Rattle.std.specs.Prelude.{◌≡◌, map, ◌+◌, ◌*◌, ◌≤◌, length, take};
-ghost use Rattle.std.proofs.lemmas.List.Edits.{sets};
+ghost use Rattle.std.specs.Prelude.{◌≡◌, map, ◌*◌, ◌≤◌, length};
 ghost use Rattle.request.specs.View.{view, view_demand};
-ghost use Rattle.writing.specs.inner.Ready.{RoutesFit};
-ghost use Rattle.columns.specs.Columns.{link_ends, hop_counts, route_links, route_reply, ends_after, hops_after, routes_after};
+ghost use Rattle.lent.specs.Lent.{over};
+ghost use Rattle.columns.specs.Columns.{link_ends, route_links, route_reply, ends_after, hops_after, routes_after};
 
+use crate::column::write_column;
 use lent::check_room;
-use request::{Checked, Demand, Link, Request, Written, check_request};
+use refusal::Refusal;
+use request::{Demand, Link, Request, check_request};
 
 // The two nodes of each link by its number, how many links each demand's route has by listing position, and the links of all routes, demand
 // by demand; answers how many links these are. Refuses as the request's test does, then 10 for each buffer. A refusal writes nothing.
@@ -15,112 +16,69 @@ pub fn route_columns(
     ends: &mut [u16],
     hops: &mut [u16],
     routes: &mut [u16],
-) -> Written
+) -> Result<usize, Refusal>
     ensures answer { result ≡ route_reply (view request) (length ends.old) (length hops.old) (length routes.old) }
     ensures ends { ends.new ≡ ends_after (view request) ends.old hops.old routes.old }
     ensures hops { hops.new ≡ hops_after (view request) ends.old hops.old routes.old }
     ensures routes { routes.new ≡ routes_after (view request) ends.old hops.old routes.old }
 {
-    let answer = check_request(request);
-    if let Checked::Refused(why) = answer {
-        return Written::Refused(why);
-    }
-    let links = request.links;
-    let link_count = request.link_count;
-    let demands = request.demands;
-    let demand_count = request.demand_count;
-    let total = count_hops(demands, demand_count);
-    let ends_room = check_room(2 * link_count, ends.len());
-    if let Checked::Refused(why) = ends_room {
-        return Written::Refused(why);
-    }
-    let hops_room = check_room(demand_count, hops.len());
-    if let Checked::Refused(why) = hops_room {
-        return Written::Refused(why);
-    }
-    let routes_room = check_room(total, routes.len());
-    if let Checked::Refused(why) = routes_room {
-        return Written::Refused(why);
-    }
-    write_ends(links, link_count, ends);
-    write_hops(demands, demand_count, hops);
-    write_routes(demands, demand_count, routes);
-    Written::Wrote(total)
+    check_request(request)?;
+    let links = &request.links[..request.link_count];
+    let demands = &request.demands[..request.demand_count];
+    let total = count_hops(demands);
+    check_room(2 * links.len(), ends.len())?;
+    check_room(demands.len(), hops.len())?;
+    check_room(total, routes.len())?;
+    write_ends(links, ends);
+    write_column(|demand| demand.hops as u16, demands, hops);
+    write_routes(demands, routes);
+    Ok(total)
 }
 
 // How many links all routes have.
-fn count_hops(demands: [Demand; 200], count: usize) -> usize
-    requires count_bound { count ≤ 200 }
-    requires routes_fit { RoutesFit demands count }
-    ensures { result ≡ length (route_links (map view_demand (take count demands))) }
+// Kept as it is: `route_links` says this sum, `demand_fields` that of `writing`; one function for both would need a third and two laws.
+fn count_hops(demands: &[Demand]) -> usize
+    requires { length demands.now ≤ 200 }
+    ensures { result ≡ length (route_links (map view_demand demands.now)) }
 {
     let mut total = 0;
-    let mut k = 0;
-    while k < count {
-        let demand = demands[k];
-        total += demand.hops;
-        k += 1;
+    for demand in demands {
+        total += demand.route().len();
     }
     total
 }
 
 // The nodes of each link, at the front of a buffer.
-fn write_ends(links: [Link; 64], count: usize, out: &mut [u16])
-    requires count_bound { count ≤ 64 }
-    requires count_in_bounds { 2 * count ≤ length out.old }
-    ensures { out.new ≡ sets out.old 0 (link_ends (take count links)) }
+// Kept as it is: in chunks of two the buffer would be zipped with the links, and a node still go to each chunk's 0 and 1.
+fn write_ends(links: &[Link], out: &mut [u16])
+    requires { 2 * length links.now ≤ length out.old }
+    ensures { out.new ≡ over (link_ends links.now) out.old }
 {
-    let mut k = 0;
-    while k < count {
-        let link = links[k];
-        out[2 * k] = link.from as u16;
-        out[2 * k + 1] = link.to as u16;
-        k += 1;
-    }
-}
-
-// How many links each route has, at the front of a buffer.
-fn write_hops(demands: [Demand; 200], count: usize, out: &mut [u16])
-    requires count_bound { count ≤ 200 }
-    requires routes_fit { RoutesFit demands count }
-    requires count_in_bounds { count ≤ length out.old }
-    ensures { out.new ≡ sets out.old 0 (hop_counts (map view_demand (take count demands))) }
-{
-    let mut k = 0;
-    while k < count {
-        let demand = demands[k];
-        out[k] = demand.hops as u16;
-        k += 1;
+    for (k, link) in links.iter().enumerate() {
+        out[2 * k] = u16::from(link.from);
+        out[2 * k + 1] = u16::from(link.to);
     }
 }
 
 // The links of all routes, at the front of a buffer.
-fn write_routes(demands: [Demand; 200], count: usize, out: &mut [u16])
-    requires count_bound { count ≤ 200 }
-    requires routes_fit { RoutesFit demands count }
-    requires demands_in_bounds { length (route_links (map view_demand (take count demands))) ≤ length out.old }
-    ensures { out.new ≡ sets out.old 0 (route_links (map view_demand (take count demands))) }
+fn write_routes(demands: &[Demand], out: &mut [u16])
+    requires { length (route_links (map view_demand demands.now)) ≤ length out.old }
+    ensures { out.new ≡ over (route_links (map view_demand demands.now)) out.old }
 {
     let mut at = 0;
-    let mut k = 0;
-    while k < count {
-        let demand = demands[k];
-        let hops = demand.hops;
-        let route = demand.links;
-        write_route(&route[..hops], at, out);
-        at += hops;
-        k += 1;
+    for demand in demands {
+        let route = demand.route();
+        write_route(route, &mut out[at..]);
+        at += route.len();
     }
 }
 
-// The links of one route, from an entry of a buffer on.
-fn write_route(route: &[u8], at: usize, out: &mut [u16])
-    requires { at + length route.now ≤ length out.old }
-    ensures { out.new ≡ sets out.old at route.now }
+// The links of one route, at the front of a buffer.
+fn write_route(route: &[u8], out: &mut [u16])
+    requires { length route.now ≤ length out.old }
+    ensures { out.new ≡ over route.now out.old }
 {
-    let mut i = 0;
-    while i < route.len() {
-        out[at + i] = route[i] as u16;
-        i += 1;
+    for (k, link) in route.iter().enumerate() {
+        out[k] = u16::from(*link);
     }
 }

@@ -1,7 +1,7 @@
 -- A field of a file: a tag, the length of its body, and the body.
-use Rattle.std.specs.Prelude.{ℕ, ◌+◌, ◌*◌, ◌&&◌, List, length, get_or, leb, eqb}
+use Rattle.refusal.specs.declared.Refusal.{Refusal}
+use Rattle.std.specs.Prelude.{ℕ, ◌+◌, ◌*◌, ◌&&◌, List, length, get_or, leb, eqb, Result}
 use Rattle.refusal.specs.declared.Refusal.TheVariants.{PastEnd, WrongTag, WrongLength}
-use Rattle.request.specs.declared.Checked.{Checked}
 use Rattle.request.specs.Check.{then, must}
 
 -- the number of two bytes, the high byte first
@@ -19,7 +19,7 @@ unfolding body_length
 field_end s at = at + 3 + body_length s at
 
 -- every field: 1 where it runs past the end, 2 where another tag must stand there, 3 where its length is not least to most
-unfoldable pub check_field : List ℕ → ℕ → ℕ → ℕ → ℕ → Checked
+unfoldable pub check_field : List ℕ → ℕ → ℕ → ℕ → ℕ → Result Unit Refusal
 unfolding then must body_length field_end
 check_field s at tag least most =
     then (must (leb (field_end s at) (length s)) (PastEnd at))

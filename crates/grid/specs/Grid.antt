@@ -1,17 +1,13 @@
 -- The frequency grid: which bands are allowed, where a block of slots stands on the grid, and which block has given grid numbers.
 -- The names are those of the rules: n0 is the band's lower edge, S its slot count, G its guard; a block has a start s and a width w;
 -- n is its central number and m its width number.
-use Rattle.std.specs.Prelude.{ℕ, ◌+◌, ◌*◌, ◌/◌, ◌%◌, Bool, true, false, ◌&&◌, leb, eqb, ℤ, pos, negsuc, neg_ℤ, ◌+ℤ◌, ◌-ℤ◌, ◌*ℤ◌}
+use Rattle.grid.specs.declared.Block.{Block}
+use Rattle.refusal.specs.declared.Refusal.{Refusal}
+use Rattle.std.specs.Prelude.{ℕ, ◌+◌, ◌*◌, ◌/◌, ◌%◌, Bool, true, false, ◌&&◌, leb, eqb, ℤ, pos, negsuc, neg_ℤ, ◌+ℤ◌, ◌-ℤ◌, ◌*ℤ◌, Result, Ok, Err}
 use Rattle.std.specs.Int.Signed.{le_z}
 use Rattle.refusal.specs.declared.Refusal.TheVariants.{BandOutside, BadWidth, EndAbove, NoBlock}
 use Rattle.grid.specs.declared.Band.{Band}
-use Rattle.grid.specs.declared.BandReply.{BandReply}
-use Rattle.grid.specs.declared.BandReply.TheVariants as band-reply
 use Rattle.grid.specs.declared.Frequency.{Frequency}
-use Rattle.grid.specs.declared.FrequencyReply.{FrequencyReply}
-use Rattle.grid.specs.declared.FrequencyReply.TheVariants as frequency-reply
-use Rattle.grid.specs.declared.BlockReply.{BlockReply}
-use Rattle.grid.specs.declared.BlockReply.TheVariants as block-reply
 
 -- unless the test holds, the refusal; where it holds, the rest
 module _ {A : Type 0} where
@@ -38,10 +34,10 @@ abbrev pub allowed_band : Band → Bool
 allowed_band band = allowed_edge band.n0 && (allowed_slots band.slots && allowed_guard band.guard)
 
 -- the band of three numbers, or refusal 4 at place 0
-abbrev pub band_reply : ℤ → ℕ → ℕ → BandReply
+abbrev pub band_reply : ℤ → ℕ → ℕ → Result Band Refusal
 band_reply n0 S G =
-    unless (allowed_band (record { n0 = n0; slots = S; guard = G })) (band-reply.Refused (BandOutside 0))
-    (band-reply.Allowed (record { n0 = n0; slots = S; guard = G }))
+    unless (allowed_band (record { n0 = n0; slots = S; guard = G })) (Err (BandOutside 0))
+    (Ok (record { n0 = n0; slots = S; guard = G }))
 
 -- ---- from a block to its frequency
 
@@ -67,12 +63,12 @@ frequency_of n0 s w =
     record { n = central_number n0 s w; m = w; mhz = central_mhz (central_number n0 s w) }
 
 -- a block's frequency; or refusal 4, then 9, then 17 for an end s + w above S, each at place 0
-unfoldable pub frequency_reply : Band → ℕ → ℕ → FrequencyReply
+unfoldable pub frequency_reply : Band → ℕ → ℕ → Result Frequency Refusal
 frequency_reply band s w =
-    unless (allowed_band band) (frequency-reply.Refused (BandOutside 0))
-    (unless (allowed_width band.slots w) (frequency-reply.Refused (BadWidth 0))
-    (unless (end_within band.slots s w) (frequency-reply.Refused (EndAbove 0))
-    (frequency-reply.Centred (frequency_of band.n0 s w))))
+    unless (allowed_band band) (Err (BandOutside 0))
+    (unless (allowed_width band.slots w) (Err (BadWidth 0))
+    (unless (end_within band.slots s w) (Err (EndAbove 0))
+    (Ok (frequency_of band.n0 s w))))
 
 -- ---- and back
 
@@ -91,14 +87,14 @@ half_of (pos d) = d / 2
 half_of (negsuc d) = 0
 
 -- the block that starts at half of n - n0 - m; or refusal 19 at place 0 where that is odd or negative, or the end is above S
-unfoldable pub block_at : ℕ → ℤ → ℕ → BlockReply
+unfoldable pub block_at : ℕ → ℤ → ℕ → Result Block Refusal
 block_at S gap m =
-    unless (even_natural gap && end_within S (half_of gap) m) (block-reply.Refused (NoBlock 0))
-    (block-reply.Found (record { start = half_of gap; width = m }))
+    unless (even_natural gap && end_within S (half_of gap) m) (Err (NoBlock 0))
+    (Ok (record { start = half_of gap; width = m }))
 
 -- the block that has n and m; or refusal 4, then 19 also for a width m that is not allowed, each at place 0
-unfoldable pub block_reply : Band → ℤ → ℕ → BlockReply
+unfoldable pub block_reply : Band → ℤ → ℕ → Result Block Refusal
 block_reply band n m =
-    unless (allowed_band band) (block-reply.Refused (BandOutside 0))
-    (unless (allowed_width band.slots m) (block-reply.Refused (NoBlock 0))
+    unless (allowed_band band) (Err (BandOutside 0))
+    (unless (allowed_width band.slots m) (Err (NoBlock 0))
     (block_at band.slots (gap_of band.n0 n m) m))

@@ -1,16 +1,11 @@
 -- The theorems of the grid: a block and its frequency name each other, and each call has one right answer.
-use Rattle.std.specs.Prelude.{ℕ, ◌+◌, ◌*◌, ◌%◌, ◌≡◌, Bool, true, ℤ, pos, negsuc, ◌+ℤ◌, ◌-ℤ◌}
+use Rattle.std.specs.Prelude.{ℕ, ◌+◌, ◌*◌, ◌%◌, ◌≡◌, Bool, true, ℤ, pos, negsuc, ◌+ℤ◌, ◌-ℤ◌, Result, Ok, Err}
 use Rattle.std.proofs.Common.{sym, ◌∙◌, ap, arith, eq-eqb, eqb-true}
 use Rattle.std.proofs.Math.IntN.{+ℤ_comm, +ℤ-neg_ℤ_cancel, -ℤ-+ℤ_cancel}
 use Rattle.refusal.specs.declared.Refusal.{Refusal}
 use Rattle.grid.specs.declared.Band.{Band}
-use Rattle.grid.specs.declared.BandReply.{BandReply}
 use Rattle.grid.specs.declared.Frequency.{Frequency}
-use Rattle.grid.specs.declared.FrequencyReply.{FrequencyReply}
-use Rattle.grid.specs.declared.FrequencyReply.TheVariants as frequency-reply
 use Rattle.grid.specs.declared.Block.{Block}
-use Rattle.grid.specs.declared.BlockReply.{BlockReply}
-use Rattle.grid.specs.declared.BlockReply.TheVariants as block-reply
 use Rattle.grid.specs.Grid.{allowed_band, band_reply, allowed_width, end_within, central_number, central_mhz, frequency_of, frequency_reply, gap_of, even_natural, half_of, block_at, block_reply}
 use Rattle.theory.proofs.TestLaws.{by_test}
 use Rattle.grid.specs.ReplyLaws.{frequency_outside, frequency_width, frequency_end, frequency_centred, block_outside, block_width, block_gap, at_odd, at_end, at_half}
@@ -47,11 +42,11 @@ pub record Centres (band : Band) (s w : ℕ) (f : Frequency) : Type 0 where
   pub is : f ≡ frequency_of band.n0 s w
 
 -- a refusal is no frequency
-refused_not_centred : {X : Type 0} (r : Refusal) (f : Frequency) → frequency-reply.Refused r ≡ frequency-reply.Centred f → X
+refused_not_centred : {X : Type 0} (r : Refusal) (f : Frequency) → Err r ≡ Ok f → X
 refused_not_centred r f h = absurd (let no : ◌≡◌ {A = ℕ} 0 1 = cc in omega arith)
 
 -- a reply that holds a frequency comes of a block that has it
-pub centres : (band : Band) (s w : ℕ) (f : Frequency) → frequency_reply band s w ≡ frequency-reply.Centred f → Centres band s w f
+pub centres : (band : Band) (s w : ℕ) (f : Frequency) → frequency_reply band s w ≡ Ok f → Centres band s w f
 centres band s w f h =
     by_test (allowed_band band)
     (λ allowed.
@@ -72,11 +67,11 @@ pub record Finds (band : Band) (n : ℤ) (m : ℕ) (b : Block) : Type 0 where
   pub is : b ≡ record { start = half_of (gap_of band.n0 n m); width = m }
 
 -- a refusal is no block
-refused_not_found : {X : Type 0} (r : Refusal) (b : Block) → block-reply.Refused r ≡ block-reply.Found b → X
+refused_not_found : {X : Type 0} (r : Refusal) (b : Block) → Err r ≡ Ok b → X
 refused_not_found r b h = absurd (let no : ◌≡◌ {A = ℕ} 0 1 = cc in omega arith)
 
 -- a reply that holds a block comes of two numbers that have it
-pub finds : (band : Band) (n : ℤ) (m : ℕ) (b : Block) → block_reply band n m ≡ block-reply.Found b → Finds band n m b
+pub finds : (band : Band) (n : ℤ) (m : ℕ) (b : Block) → block_reply band n m ≡ Ok b → Finds band n m b
 finds band n m b h =
     let S = band.slots in
     let gap = gap_of band.n0 n m in
@@ -84,7 +79,7 @@ finds band n m b h =
     (λ allowed.
     by_test (allowed_width S m)
     (λ width.
-    let at : block_at S gap m ≡ block-reply.Found b = sym (block_gap band n m allowed width) ∙ h in
+    let at : block_at S gap m ≡ Ok b = sym (block_gap band n m allowed width) ∙ h in
     by_test (even_natural gap)
     (λ even.
     by_test (end_within S (half_of gap) m)
@@ -97,33 +92,33 @@ finds band n m b h =
 -- ---- there and back
 
 -- in an allowed band, the numbers of a block whose width and end are allowed name that block
-pub block_names_itself : (band : Band) (s w : ℕ) → allowed_band band ≡ true → allowed_width band.slots w ≡ true → end_within band.slots s w ≡ true → block_reply band (central_number band.n0 s w) w ≡ block-reply.Found (record { start = s; width = w })
+pub block_names_itself : (band : Band) (s w : ℕ) → allowed_band band ≡ true → allowed_width band.slots w ≡ true → end_within band.slots s w ≡ true → block_reply band (central_number band.n0 s w) w ≡ Ok (record { start = s; width = w })
 block_names_itself band s w allowed width end =
     let half : half_of (pos (2 * s)) ≡ s = omega arith in
     block_gap band (central_number band.n0 s w) w allowed width ∙
     ap (λ (gap : ℤ). block_at band.slots gap w) (gap_of_block band.n0 s w) ∙
     at_half band.slots (pos (2 * s)) w (eq-eqb (2 * s % 2) 0 (omega arith)) (ap (λ (h : ℕ). end_within band.slots h w) half ∙ end) ∙
-    ap (λ (h : ℕ). block-reply.Found (record { start = h; width = w })) half
+    ap (λ (h : ℕ). Ok (record { start = h; width = w })) half
 
 -- a block turned into its frequency and back is the same block
-pub block_and_back : (band : Band) (s w : ℕ) (f : Frequency) → frequency_reply band s w ≡ frequency-reply.Centred f → block_reply band f.n f.m ≡ block-reply.Found (record { start = s; width = w })
+pub block_and_back : (band : Band) (s w : ℕ) (f : Frequency) → frequency_reply band s w ≡ Ok f → block_reply band f.n f.m ≡ Ok (record { start = s; width = w })
 block_and_back band s w f h =
     let c = centres band s w f h in
     ap (λ (g : Frequency). block_reply band g.n g.m) c.is ∙
     block_names_itself band s w c.allowed c.width c.end
 
 -- two numbers turned into their block and back are the same numbers
-pub numbers_and_back : (band : Band) (n : ℤ) (m : ℕ) (b : Block) → block_reply band n m ≡ block-reply.Found b → frequency_reply band b.start b.width ≡ frequency-reply.Centred (record { n = n; m = m; mhz = central_mhz n })
+pub numbers_and_back : (band : Band) (n : ℤ) (m : ℕ) (b : Block) → block_reply band n m ≡ Ok b → frequency_reply band b.start b.width ≡ Ok (record { n = n; m = m; mhz = central_mhz n })
 numbers_and_back band n m b h =
     let f = finds band n m b h in
     ap (λ (k : Block). frequency_reply band k.start k.width) f.is ∙
     frequency_centred band (half_of (gap_of band.n0 n m)) m f.allowed f.width f.end ∙
-    ap (λ (k : ℤ). frequency-reply.Centred (record { n = k; m = m; mhz = central_mhz k })) (block_of_gap band.n0 n m f.even)
+    ap (λ (k : ℤ). Ok (record { n = k; m = m; mhz = central_mhz k })) (block_of_gap band.n0 n m f.even)
 
 -- ---- each call has one right answer: two results that meet its contract are equal
 
 -- of `Band::new`
-pub same_band : (n0 : ℤ) (S G : ℕ) (r r' : BandReply) → r ≡ band_reply n0 S G → r' ≡ band_reply n0 S G → r ≡ r'
+pub same_band : (n0 : ℤ) (S G : ℕ) (r r' : Result Band Refusal) → r ≡ band_reply n0 S G → r' ≡ band_reply n0 S G → r ≡ r'
 same_band n0 S G r r' h k = h ∙ sym k
 
 -- of `Band::allowed`
@@ -131,11 +126,11 @@ pub same_allowed : (band : Band) (r r' : Bool) → r ≡ allowed_band band → r
 same_allowed band r r' h k = h ∙ sym k
 
 -- of `to_frequency`
-pub same_frequency : (band : Band) (s w : ℕ) (r r' : FrequencyReply) → r ≡ frequency_reply band s w → r' ≡ frequency_reply band s w → r ≡ r'
+pub same_frequency : (band : Band) (s w : ℕ) (r r' : Result Frequency Refusal) → r ≡ frequency_reply band s w → r' ≡ frequency_reply band s w → r ≡ r'
 same_frequency band s w r r' h k = h ∙ sym k
 
 -- of `from_frequency`
-pub same_block : (band : Band) (n : ℤ) (m : ℕ) (r r' : BlockReply) → r ≡ block_reply band n m → r' ≡ block_reply band n m → r ≡ r'
+pub same_block : (band : Band) (n : ℤ) (m : ℕ) (r r' : Result Block Refusal) → r ≡ block_reply band n m → r' ≡ block_reply band n m → r ≡ r'
 same_block band n m r r' h k = h ∙ sym k
 
 -- of `width_allowed`

@@ -1,13 +1,10 @@
 -- Laws of tests as the code meets them, and laws of the replies, one for each way a reply can go.
-use Rattle.std.specs.Prelude.{ℕ, ◌+◌, ◌-◌, ◌≤◌, ◌≡◌, refl, Bool, true, false, not, ◌&&◌, leb, ℤ}
+use Rattle.std.specs.Prelude.{ℕ, ◌+◌, ◌-◌, ◌≤◌, ◌≡◌, refl, Bool, true, false, not, ◌&&◌, leb, ℤ, Ok, Err}
 use Rattle.std.proofs.Common.{sym, ◌∙◌, arith, leb-true, leb-false, le-leb}
 use Rattle.std.proofs.lemmas.Bool.{lt-leb, not-true, not-false}
 use Rattle.refusal.specs.declared.Refusal.TheVariants.{BandOutside, BadWidth, EndAbove, NoBlock}
 use Rattle.theory.proofs.TestLaws.{by_test}
 use Rattle.grid.specs.declared.Band.{Band}
-use Rattle.grid.specs.declared.BandReply.TheVariants as band-reply
-use Rattle.grid.specs.declared.FrequencyReply.TheVariants as frequency-reply
-use Rattle.grid.specs.declared.BlockReply.TheVariants as block-reply
 use Rattle.grid.specs.Grid.{allowed_band, band_reply, allowed_width, end_within, frequency_of, frequency_reply, gap_of, even_natural, half_of, block_at, block_reply}
 
 -- ---- tests
@@ -33,31 +30,31 @@ refused_by h k = sym h ∙ not-true _ k
 -- ---- replies
 
 -- a band whose numbers are within their limits is answered
-pub band_allowed : (n0 : ℤ) (S G : ℕ) → allowed_band (record { n0 = n0; slots = S; guard = G }) ≡ true → band_reply n0 S G ≡ band-reply.Allowed (record { n0 = n0; slots = S; guard = G })
+pub band_allowed : (n0 : ℤ) (S G : ℕ) → allowed_band (record { n0 = n0; slots = S; guard = G }) ≡ true → band_reply n0 S G ≡ Ok (record { n0 = n0; slots = S; guard = G })
 band_allowed n0 S G h = rw h
 
 -- a band with a number outside its limits is refused with 4
-pub band_outside : (n0 : ℤ) (S G : ℕ) → allowed_band (record { n0 = n0; slots = S; guard = G }) ≡ false → band_reply n0 S G ≡ band-reply.Refused (BandOutside 0)
+pub band_outside : (n0 : ℤ) (S G : ℕ) → allowed_band (record { n0 = n0; slots = S; guard = G }) ≡ false → band_reply n0 S G ≡ Err (BandOutside 0)
 band_outside n0 S G h = rw h
 
 module _ (band : Band) (s w : ℕ) where
   -- a band outside its limits: 4
-  pub frequency_outside : allowed_band band ≡ false → frequency_reply band s w ≡ frequency-reply.Refused (BandOutside 0)
+  pub frequency_outside : allowed_band band ≡ false → frequency_reply band s w ≡ Err (BandOutside 0)
   unfolding frequency_reply
   frequency_outside h = rw h
 
   -- in an allowed band, a width that is none: 9
-  pub frequency_width : allowed_band band ≡ true → allowed_width band.slots w ≡ false → frequency_reply band s w ≡ frequency-reply.Refused (BadWidth 0)
+  pub frequency_width : allowed_band band ≡ true → allowed_width band.slots w ≡ false → frequency_reply band s w ≡ Err (BadWidth 0)
   unfolding frequency_reply
   frequency_width h k = rw (h, k)
 
   -- then an end above the slot count: 17
-  pub frequency_end : allowed_band band ≡ true → allowed_width band.slots w ≡ true → end_within band.slots s w ≡ false → frequency_reply band s w ≡ frequency-reply.Refused (EndAbove 0)
+  pub frequency_end : allowed_band band ≡ true → allowed_width band.slots w ≡ true → end_within band.slots s w ≡ false → frequency_reply band s w ≡ Err (EndAbove 0)
   unfolding frequency_reply
   frequency_end h k l = rw (h, k, l)
 
   -- every other block has its frequency
-  pub frequency_centred : allowed_band band ≡ true → allowed_width band.slots w ≡ true → end_within band.slots s w ≡ true → frequency_reply band s w ≡ frequency-reply.Centred (frequency_of band.n0 s w)
+  pub frequency_centred : allowed_band band ≡ true → allowed_width band.slots w ≡ true → end_within band.slots s w ≡ true → frequency_reply band s w ≡ Ok (frequency_of band.n0 s w)
   unfolding frequency_reply
   frequency_centred h k l = rw (h, k, l)
 
@@ -70,28 +67,28 @@ room_left S s w h =
 
 module _ (S : ℕ) (gap : ℤ) (m : ℕ) where
   -- a gap that is odd or negative: 19
-  pub at_odd : even_natural gap ≡ false → block_at S gap m ≡ block-reply.Refused (NoBlock 0)
+  pub at_odd : even_natural gap ≡ false → block_at S gap m ≡ Err (NoBlock 0)
   unfolding block_at
   at_odd h = rw h
 
   -- then an end above the slot count: 19
-  pub at_end : even_natural gap ≡ true → end_within S (half_of gap) m ≡ false → block_at S gap m ≡ block-reply.Refused (NoBlock 0)
+  pub at_end : even_natural gap ≡ true → end_within S (half_of gap) m ≡ false → block_at S gap m ≡ Err (NoBlock 0)
   unfolding block_at
   at_end h k = rw (h, k)
 
   -- every other gap has its block
-  pub at_half : even_natural gap ≡ true → end_within S (half_of gap) m ≡ true → block_at S gap m ≡ block-reply.Found (record { start = half_of gap; width = m })
+  pub at_half : even_natural gap ≡ true → end_within S (half_of gap) m ≡ true → block_at S gap m ≡ Ok (record { start = half_of gap; width = m })
   unfolding block_at
   at_half h k = rw (h, k)
 
 module _ (band : Band) (n : ℤ) (m : ℕ) where
   -- a band outside its limits: 4
-  pub block_outside : allowed_band band ≡ false → block_reply band n m ≡ block-reply.Refused (BandOutside 0)
+  pub block_outside : allowed_band band ≡ false → block_reply band n m ≡ Err (BandOutside 0)
   unfolding block_reply
   block_outside h = rw h
 
   -- in an allowed band, a width number that is none: 19
-  pub block_width : allowed_band band ≡ true → allowed_width band.slots m ≡ false → block_reply band n m ≡ block-reply.Refused (NoBlock 0)
+  pub block_width : allowed_band band ≡ true → allowed_width band.slots m ≡ false → block_reply band n m ≡ Err (NoBlock 0)
   unfolding block_reply
   block_width h k = rw (h, k)
 

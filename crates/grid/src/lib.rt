@@ -1,8 +1,9 @@
 // The frequency grid: a band with its limits, and the way from a block of slots to its frequency and back.
 #![tactic(auto)]
 
-ghost use Rattle.std.specs.Prelude.{◌≡◌, true};
-ghost use Rattle.grid.specs.Grid.{allowed_edge, allowed_slots, allowed_band, band_reply, allowed_width, end_within, central_number, central_mhz, frequency_reply, gap_of, even_natural, half_of, block_at, block_reply};
+ghost use Rattle.std.specs.Prelude.{◌≡◌, true, Ok, Err};
+ghost use Rattle.refusal.specs.declared.Refusal.TheVariants.{BandOutside};
+ghost use Rattle.grid.specs.Grid.{unless, allowed_edge, allowed_slots, allowed_band, band_reply, allowed_width, end_within, central_number, central_mhz, frequency_reply, gap_of, even_natural, half_of, block_at, block_reply};
 
 use refusal::Refusal;
 
@@ -17,13 +18,6 @@ pub struct Band {
     pub guard: u8,
 }
 
-// A band, or why its numbers make none.
-#[derive(Drop)]
-pub enum BandReply {
-    Allowed(Band),
-    Refused(Refusal),
-}
-
 impl Band {
     pub const LOWEST_EDGE: i16 = -400;
 
@@ -36,14 +30,22 @@ impl Band {
     pub const MOST_GUARD: u8 = 8;
 
     // The band of these numbers, or refusal 4 at place 0.
-    pub fn new(n0: i16, slots: u16, guard: u8) -> BandReply
+    pub fn new(n0: i16, slots: u16, guard: u8) -> Result<Band, Refusal>
         ensures { result ≡ band_reply n0 slots guard }
     {
         let band = Band { n0, slots, guard };
-        if band.allowed() {
-            BandReply::Allowed(band)
+        band.check()?;
+        Ok(band)
+    }
+
+    // Refusal 4 at place 0 where a number is outside its limits.
+    fn check(self) -> Result<(), Refusal>
+        ensures { result ≡ unless (allowed_band self) (Err (BandOutside 0)) (Ok tt) }
+    {
+        if self.allowed() {
+            Ok(())
         } else {
-            BandReply::Refused(Refusal::BandOutside(0))
+            Err(Refusal::BandOutside(0))
         }
     }
 
@@ -51,39 +53,20 @@ impl Band {
     pub fn allowed(self) -> bool
         ensures { result ≡ allowed_band self }
     {
-        let n0 = self.n0;
-        let slots = self.slots;
-        let guard = self.guard;
-        if edge_allowed(n0) {
-            if slots_allowed(slots) {
-                guard <= Band::MOST_GUARD
-            } else {
-                false
-            }
-        } else {
-            false
-        }
+        edge_allowed(self.n0) && slots_allowed(self.slots) && self.guard <= Band::MOST_GUARD
     }
 }
 
 fn edge_allowed(n0: i16) -> bool
     ensures { result ≡ allowed_edge n0 }
 {
-    if Band::LOWEST_EDGE <= n0 {
-        n0 <= Band::HIGHEST_EDGE
-    } else {
-        false
-    }
+    (Band::LOWEST_EDGE..=Band::HIGHEST_EDGE).contains(&n0)
 }
 
 fn slots_allowed(slots: u16) -> bool
     ensures { result ≡ allowed_slots slots }
 {
-    if Band::LEAST_SLOTS <= slots {
-        slots <= Band::MOST_SLOTS
-    } else {
-        false
-    }
+    (Band::LEAST_SLOTS..=Band::MOST_SLOTS).contains(&slots)
 }
 
 // Where a block stands on the grid.
@@ -97,13 +80,6 @@ pub struct Frequency {
     pub mhz: i64,
 }
 
-// A block's frequency, or why it is no block of the band.
-#[derive(Drop)]
-pub enum FrequencyReply {
-    Centred(Frequency),
-    Refused(Refusal),
-}
-
 // A run of slots: `width` of them from slot `start` on.
 #[derive(Drop)]
 pub struct Block {
@@ -111,62 +87,51 @@ pub struct Block {
     pub width: u16,
 }
 
-// The block that has some grid numbers, or why none has.
-#[derive(Drop)]
-pub enum BlockReply {
-    Found(Block),
-    Refused(Refusal),
-}
-
 // The frequency of the block of this start and width; or refusal 4, 9 or 17, in that order, at place 0.
-pub fn to_frequency(band: Band, start: u16, width: u16) -> FrequencyReply
+#[tactic(auto, unfolding(crate::specs::Grid::frequency_reply))]
+pub fn to_frequency(band: Band, start: u16, width: u16) -> Result<Frequency, Refusal>
     ensures { result ≡ frequency_reply band start width }
 {
-    if !band.allowed() {
-        return FrequencyReply::Refused(Refusal::BandOutside(0));
+    band.check()?;
+    if !width_allowed(band.slots, width) {
+        return Err(Refusal::BadWidth(0));
     }
-    let slots = band.slots;
-    let width_good = width_allowed(slots, width);
-    let end_good = end_within(slots, start as u64, width);
-    if !width_good {
-        return FrequencyReply::Refused(Refusal::BadWidth(0));
+    if !end_within(band.slots, u64::from(start), width) {
+        return Err(Refusal::EndAbove(0));
     }
-    if !end_good {
-        return FrequencyReply::Refused(Refusal::EndAbove(0));
-    }
-    let n0 = band.n0;
-    let n = central_number(n0, start, width);
-    let mhz = central_mhz(n);
-    FrequencyReply::Centred(Frequency { n, m: width, mhz })
+    let n = central_number(band.n0, start, width);
+    Ok(Frequency {
+        n,
+        m: width,
+        mhz: central_mhz(n),
+    })
 }
 
 // The block whose central and width numbers these are; or refusal 4 or 19, in that order, at place 0.
-pub fn from_frequency(band: Band, n: i32, m: u16) -> BlockReply
+#[tactic(auto, unfolding(crate::specs::Grid::block_reply))]
+pub fn from_frequency(band: Band, n: i32, m: u16) -> Result<Block, Refusal>
     ensures { result ≡ block_reply band n m }
 {
-    if !band.allowed() {
-        return BlockReply::Refused(Refusal::BandOutside(0));
+    band.check()?;
+    if !width_allowed(band.slots, m) {
+        return Err(Refusal::NoBlock(0));
     }
-    let slots = band.slots;
-    if !width_allowed(slots, m) {
-        return BlockReply::Refused(Refusal::NoBlock(0));
-    }
-    let n0 = band.n0;
-    block_at(slots, gap(n0, n, m), m)
+    block_at(band.slots, gap(band.n0, n, m), m)
 }
 
 // The block that starts at half of `twice`. Sign and oddness are tested before it is halved.
-fn block_at(slots: u16, twice: i64, m: u16) -> BlockReply
+#[tactic(auto, unfolding(crate::specs::Grid::block_at))]
+fn block_at(slots: u16, twice: i64, m: u16) -> Result<Block, Refusal>
     ensures { result ≡ block_at slots twice m }
 {
     if !even_natural(twice) {
-        return BlockReply::Refused(Refusal::NoBlock(0));
+        return Err(Refusal::NoBlock(0));
     }
     let start = half(twice);
     if !end_within(slots, start, m) {
-        return BlockReply::Refused(Refusal::NoBlock(0));
+        return Err(Refusal::NoBlock(0));
     }
-    BlockReply::Found(Block {
+    Ok(Block {
         start: start as u16,
         width: m,
     })
@@ -176,47 +141,40 @@ fn block_at(slots: u16, twice: i64, m: u16) -> BlockReply
 pub fn width_allowed(slots: u16, width: u16) -> bool
     ensures { result ≡ allowed_width slots width }
 {
-    if 1 <= width { width <= slots } else { false }
+    (1..=slots).contains(&width)
 }
 
 // An end is at most the slot count. A start and a width may add up to more than the type holds; what the width leaves of the slots never does.
 pub fn end_within(slots: u16, start: u64, width: u16) -> bool
     ensures { result ≡ end_within slots start width }
 {
-    if width <= slots {
-        start <= (slots - width) as u64
-    } else {
-        false
-    }
+    width <= slots && start <= u64::from(slots - width)
 }
 
 fn central_number(n0: i16, start: u16, width: u16) -> i32
     ensures { result ≡ central_number n0 start width }
 {
-    let steps = 2 * (start as u32) + width as u32;
-    n0 as i32 + steps as i32
+    let steps = 2 * u32::from(start) + u32::from(width);
+    i32::from(n0) + steps as i32
 }
 
 fn central_mhz(n: i32) -> i64
     ensures { result ≡ central_mhz n }
 {
-    193_100_000 + 6_250 * (n as i64)
+    193_100_000 + 6_250 * i64::from(n)
 }
 
 // Twice the start of the block, if there is one. 64 bits hold it whatever `n` is.
 fn gap(n0: i16, n: i32, m: u16) -> i64
     ensures { result ≡ gap_of n0 n m }
 {
-    n as i64 - n0 as i64 - m as i64
+    i64::from(n) - i64::from(n0) - i64::from(m)
 }
 
 fn even_natural(twice: i64) -> bool
     ensures { result ≡ even_natural twice }
 {
-    if twice < 0 {
-        return false;
-    }
-    twice % 2 == 0
+    0 <= twice && twice % 2 == 0
 }
 
 // Halving is asked only of even numbers from 0 up: -1 and 1 would both give 0.

@@ -1,5 +1,6 @@
 -- What groups promise, in the planner's words: the best of all orders of the groups, and the first of its kind.
-use Rattle.std.specs.Prelude.{ℕ, ◌≤◌, ◌<◌, List, ◌≡◌, take}
+use Rattle.std.specs.Prelude.{ℕ, ◌≤◌, ◌<◌, List, ◌≡◌, take, Option, Some, None, Result, Ok, Err}
+use Rattle.refusal.specs.declared.Refusal.{Refusal}
 use Rattle.theory.specs.Arrange.{Arrange}
 use Rattle.theory.specs.Earlier.{Lower}
 use Rattle.theory.specs.Groups.{members}
@@ -7,13 +8,10 @@ use Rattle.theory.specs.Orders.{listing}
 use Rattle.theory.specs.Problem.{Row, placed, refused, top}
 use Rattle.request.specs.View.{View}
 use Rattle.request.specs.Sharing.{problem_of}
-use Rattle.placing.specs.declared.PlacedReply.TheVariants.{Placed}
 use Rattle.placing.specs.FirstFit.{fitted, first_fit_reply, first_fit_starts, first_fit_blockers}
 use Rattle.search.specs.declared.Outcome.{Outcome}
 use Rattle.search.specs.declared.Outcome.TheVariants.{Finished, NothingFits, Unfinished, UnfinishedEmpty}
-use Rattle.groups.specs.declared.Grouping.{Grouping}
-use Rattle.groups.specs.declared.Grouping.TheVariants.{Grouped, NothingFound, Refused}
-use Rattle.groups.specs.declared.GroupsReply.{GroupsReply}
+use Rattle.groups.specs.declared.Grouped.{Grouped}
 use Rattle.groups.specs.Reply.{groups_starts, groups_blockers}
 
 -- an order of M groups lists each group once
@@ -40,28 +38,28 @@ pub record BestOfGroups (v : View) (M e : ℕ) (order : List ℕ) : Type 0 where
   pub none_lower : (other : List ℕ) (end : ℕ) → GroupOrder M other → PlacedAlong v M other end → e ≤ end
   pub first : (other : List ℕ) (end : ℕ) → GroupOrder M other → Lower other order → PlacedAlong v M other end → e < end
 
--- what each outcome promises, with the order told; nothing found means that first fit refuses along every group order
-unfoldable pub Promised : View → ℕ → List ℕ → Grouping → Type 0
+-- what each reply promises; nothing found means that first fit refuses along every group order
+unfoldable pub Promised : View → ℕ → Result (Option Grouped) Refusal → Type 0
 unfolding GroupOrder
-Promised v M order (Grouped e) = BestOfGroups v M e order
-Promised v M order NothingFound = (other : List ℕ) → GroupOrder M other → RefusedAlong v M other
-Promised v M order (Refused why) = Unit {0}
+Promised v M (Ok (Some plan)) = BestOfGroups v M plan.end (take M plan.order)
+Promised v M (Ok None) = (other : List ℕ) → GroupOrder M other → RefusedAlong v M other
+Promised v M (Err why) = Unit {0}
 
 -- first fit, called along the order told with the same buffers, replies with the end told, and the buffers hold afterwards what it writes,
 -- in which each demand has its lowest free start
 pub record WrittenAlong (v : View) (M e : ℕ) (order rooms starts blockers : List ℕ) : Type 0 where
-  pub replies : first_fit_reply v (members v.demand_count M order) rooms ≡ Placed e
+  pub replies : first_fit_reply v (members v.demand_count M order) rooms ≡ Ok e
   pub starts_are : groups_starts v M rooms starts ≡ first_fit_starts v (members v.demand_count M order) rooms starts
   pub blockers_are : groups_blockers v M rooms blockers ≡ first_fit_blockers v (members v.demand_count M order) rooms blockers
 
 -- the outcome of a search in the words of groups; of one that was stopped nothing is said
-unfoldable pub grouping_of : Outcome → Grouping → Type 0
-grouping_of (Finished e) grouping = grouping ≡ Grouped e
-grouping_of NothingFits grouping = grouping ≡ NothingFound
-grouping_of (Unfinished e) grouping = Unit {0}
-grouping_of UnfinishedEmpty grouping = Unit {0}
+unfoldable pub grouping_of : Outcome → Result (Option Grouped) Refusal → Type 0
+grouping_of (Finished e) reply = (plan : Grouped) × (reply ≡ Ok (Some plan)) × (plan.end ≡ e)
+grouping_of NothingFits reply = reply ≡ Ok None
+grouping_of (Unfinished e) reply = Unit {0}
+grouping_of UnfinishedEmpty reply = Unit {0}
 
 -- groups of one demand each find what a search found: the same end, or nothing where nothing fits; and along the same order
-pub record AsSearch (K : ℕ) (outcome : Outcome) (order : List ℕ) (reply : GroupsReply) : Type 0 where
-  pub same_outcome : grouping_of outcome reply.outcome
-  pub same_order : (e : ℕ) → outcome ≡ Finished e → take K reply.order ≡ order
+pub record AsSearch (K : ℕ) (outcome : Outcome) (order : List ℕ) (reply : Result (Option Grouped) Refusal) : Type 0 where
+  pub same_outcome : grouping_of outcome reply
+  pub same_order : (e : ℕ) (plan : Grouped) → outcome ≡ Finished e → reply ≡ Ok (Some plan) → take K plan.order ≡ order

@@ -3,9 +3,9 @@ use Prim.Native.Nat.{ℕ, ◌≤◌, ◌<◌}
 use Rattle.std.proofs.Math.Bool.{true}
 use mathlib.Core.List.Memᴰ
 use mathlib.Core.List.{List, [], ◌∷◌, map}
-use Rattle.std.specs.Prelude.{◌≢◌, drop, get_or}
+use Rattle.std.specs.Prelude.{◌≢◌, drop, get_or, Option, Some, None, Result, Ok, Err}
 use Rattle.std.proofs.Math.Path.{◌≡◌, refl, sym, ap, subst}
-use Rattle.std.proofs.Common.{◌∙◌, arith}
+use Rattle.std.proofs.Common.{ap₂, ◌∙◌, arith}
 use Rattle.std.proofs.Math.ListN.{length, take}
 use Rattle.refusal.specs.declared.Refusal.{Refusal}
 use Rattle.refusal.specs.Told.{Told}
@@ -25,8 +25,6 @@ use Rattle.theory.proofs.SearchLaws.{search_promise}
 use Rattle.theory.specs.inner.Promises.{Grounds, Promise}
 use Rattle.theory.specs.inner.Tried.{ends_at}
 use Rattle.theory.specs.inner.Grouped.{reach}
-use Rattle.request.specs.declared.Checked.{Checked}
-use Rattle.request.specs.declared.Checked.TheVariants as checked
 use Rattle.request.specs.declared.Request.{Request}
 use Rattle.request.specs.View.{View, view}
 use Rattle.request.specs.Check.{check}
@@ -41,17 +39,13 @@ use Rattle.meeting.specs.MeetingLaws.{listing_at}
 use Rattle.meeting.specs.Plan.{AllowedPlan, start_at}
 use Rattle.meeting.specs.PlanLaws.{slots_to_ends, ends_to_slots}
 use Rattle.placing.specs.FirstFit.{fitted}
-use Rattle.placing.specs.declared.PlacedReply.TheVariants.{Placed}
 use Rattle.placing.proofs.FirstFitLaws.{order_placed, order_starts, order_blockers}
 use Rattle.search.specs.declared.Answer.{Answer}
-use Rattle.search.specs.declared.SearchReply.TheVariants as reply
 use Rattle.search.specs.Reply.{Buffers, rooms_of, searched, search_reply, check_search, answer_told, outcome_told, buffers_after, buffers_kept}
 use Rattle.search.specs.Demand3.{settles}
 use Rattle.search.specs.Demand3Laws.{answer_given, grounds_of}
 use Rattle.search.specs.SettlesLaws.{settles_told}
-use Rattle.groups.specs.declared.Grouping.{Grouping}
-use Rattle.groups.specs.declared.Grouping.TheVariants.{Grouped, NothingFound, Refused}
-use Rattle.groups.specs.declared.GroupsReply.{GroupsReply}
+use Rattle.groups.specs.declared.Grouped.{Grouped}
 use Rattle.groups.specs.Reply.{groupable, check_groups, grouped, order_told, best_reply, reply_after}
 use Rattle.groups.specs.Reply.{groups_reply, groups_starts, groups_blockers, grouping_told}
 use Rattle.groups.specs.ReplyLaws.{groupable_says, groups_passed}
@@ -60,6 +54,8 @@ use Rattle.groups.specs.AnswerLaws.{
   refused_blockers,
   nothing_starts,
   nothing_blockers,
+  told_none,
+  told_some,
   told_front,
   found_starts,
   found_blockers,
@@ -107,7 +103,7 @@ module _ (v : View) (M : ℕ) where
       }
 
   -- what is told of the best keeps its promise
-  told_kept : 1 ≤ M → (best : Best) → grouped v M ≡ best → Promised v M (take M (best_reply v best).order) (best_reply v best).outcome
+  told_kept : 1 ≤ M → (best : Best) → grouped v M ≡ best → Promised v M (Ok (best_reply P best))
   unfolding best_reply Promised GroupOrder grouped
   told_kept some none_met found = λ other listed.
       above_refused other (grouped_none P v.band.slots K M found other listed) (fitted v (members K M other)) refl
@@ -116,22 +112,21 @@ module _ (v : View) (M : ℕ) where
       (best_kept some rows order found)
 
   -- the reply of groups keeps its promise, whatever the request, the number of groups and the buffers were
-  pub groups_promise : (rooms : List ℕ) → Promised v M (take M (groups_reply v M rooms).order) (groups_reply v M rooms).outcome
+  pub groups_promise : (rooms : List ℕ) → Promised v M (groups_reply v M rooms)
   unfolding groups_reply reply_after Promised
   groups_promise rooms = by_check (check_groups v M rooms) refl
     where
-      by_check : (c : Checked) → check_groups v M rooms ≡ c →
-          Promised v M (take M (reply_after c (best_reply v (grouped v M))).order) (reply_after c (best_reply v (grouped v M))).outcome
-      by_check checked.Sound is = told_kept (groupable_says K M (groups_passed v M rooms is).2).0 (grouped v M) refl
-      by_check (checked.Refused why) is = tt
+      by_check : (c : Result Unit Refusal) → check_groups v M rooms ≡ c → Promised v M (reply_after c (best_reply P (grouped v M)))
+      by_check (Ok _) is = told_kept (groupable_says K M (groups_passed v M rooms is).2).0 (grouped v M) refl
+      by_check (Err why) is = tt
 
   -- nothing is found where first fit refuses along every group order
-  pub groups_none : (rooms : List ℕ) → check_groups v M rooms ≡ checked.Sound →
-      ((other : List ℕ) → GroupOrder M other → RefusedAlong v M other) → (groups_reply v M rooms).outcome ≡ NothingFound
+  pub groups_none : (rooms : List ℕ) → check_groups v M rooms ≡ Ok tt →
+      ((other : List ℕ) → GroupOrder M other → RefusedAlong v M other) → groups_reply v M rooms ≡ Ok None
   unfolding groups_reply reply_after best_reply
   groups_none rooms passes each = by_best (grouped v M) refl
     where
-      by_best : (best : Best) → grouped v M ≡ best → (reply_after (check_groups v M rooms) (best_reply v (grouped v M))).outcome ≡ NothingFound
+      by_best : (best : Best) → grouped v M ≡ best → reply_after (check_groups v M rooms) (best_reply P (grouped v M)) ≡ Ok None
       by_best none_met found = rw (passes, found) refl
       by_best (met rows order) found =
           let best = best_kept (groupable_says K M (groups_passed v M rooms passes).2).0 rows order found in
@@ -139,28 +134,25 @@ module _ (v : View) (M : ℕ) where
           let clash : placed best.places.rows ≡ refused none.rows none.demand = sym best.places.places ∙ none.refuses in
           absurd (let z : ◌≡◌ {A = ℕ} 0 1 = cc in omega arith)
 
-  -- a plan told was found, and ends where it is told to
-  grouped_found : (rooms : List ℕ) (e : ℕ) → (groups_reply v M rooms).outcome ≡ Grouped e →
-      (check_groups v M rooms ≡ checked.Sound) × (rows : List Row) × (order : List ℕ) × (grouped v M ≡ met rows order)
-      × ((groups_reply v M rooms).order ≡ order_told order) × (top P rows ≡ e)
-  unfolding groups_reply reply_after best_reply
-  grouped_found rooms e told = by_check (check_groups v M rooms) refl (grouped v M) refl told
+  -- a plan told was found
+  plan_found : (rooms : List ℕ) (plan : Grouped) → groups_reply v M rooms ≡ Ok (Some plan) →
+      (check_groups v M rooms ≡ Ok tt) × (Some plan ≡ best_reply P (grouped v M))
+  unfolding groups_reply reply_after
+  plan_found rooms plan told = by_check (check_groups v M rooms) refl told
     where
-      by_check : (c : Checked) → check_groups v M rooms ≡ c → (best : Best) → grouped v M ≡ best →
-          (reply_after c (best_reply v best)).outcome ≡ Grouped e →
-          (check_groups v M rooms ≡ checked.Sound) × (rows : List Row) × (order : List ℕ) × (grouped v M ≡ met rows order)
-          × ((reply_after (check_groups v M rooms) (best_reply v (grouped v M))).order ≡ order_told order) × (top P rows ≡ e)
-      by_check checked.Sound is none_met found t = absurd (let z : ◌≡◌ {A = ℕ} 0 1 = cc in omega arith)
-      by_check checked.Sound is (met rows order) found t = (is, rows, order, found, rw (is, found), cc)
-      by_check (checked.Refused why) is best found t = absurd (let z : ◌≡◌ {A = ℕ} 0 1 = cc in omega arith)
+      by_check : (c : Result Unit Refusal) → check_groups v M rooms ≡ c → reply_after c (best_reply P (grouped v M)) ≡ Ok (Some plan) →
+          (check_groups v M rooms ≡ Ok tt) × (Some plan ≡ best_reply P (grouped v M))
+      by_check (Ok _) is t = (is, sym cc)
+      by_check (Err why) is t = absurd (let z : ◌≡◌ {A = ℕ} 0 1 = cc in omega arith)
 
   -- and then first fit along the order told replies with its end, and the buffers hold what it writes
-  pub groups_written : (starts blockers : List ℕ) (e : ℕ) → (groups_reply v M (length starts ∷ length blockers ∷ [])).outcome ≡ Grouped e →
-      WrittenAlong v M e (take M (groups_reply v M (length starts ∷ length blockers ∷ [])).order) (length starts ∷ length blockers ∷ [])
-      starts blockers
-  groups_written starts blockers e told =
+  pub groups_written : (starts blockers : List ℕ) (plan : Grouped) →
+      groups_reply v M (length starts ∷ length blockers ∷ []) ≡ Ok (Some plan) →
+      WrittenAlong v M plan.end (take M plan.order) (length starts ∷ length blockers ∷ []) starts blockers
+  groups_written starts blockers plan told =
       let rooms : List ℕ = length starts ∷ length blockers ∷ [] in
-      let (passes, rows, order, found, order_is, ends) = grouped_found rooms e told in
+      let (passes, is) = plan_found rooms plan told in
+      let (rows, order, found, ends, order_is) = told_some P (grouped v M) plan is in
       let tests = groups_passed v M rooms passes in
       let some : 1 ≤ M = (groupable_says K M tests.2).0 in
       let held = rooms_held K rooms tests.1 in
@@ -168,11 +160,11 @@ module _ (v : View) (M : ℕ) where
       let fits = members_fitted v M some rows order found in
       let room : K ≤ length starts = held (length starts) (Memᴰ.head refl) in
       let blockers-room : K ≤ length blockers = held (length blockers) (Memᴰ.tail (Memᴰ.head refl)) in
-      subst (λ (o : List ℕ). WrittenAlong v M e o rooms starts blockers)
+      subst (λ (o : List ℕ). WrittenAlong v M plan.end o rooms starts blockers)
       (sym (ap (take M) order_is ∙ told_front order M (order_long v M some rows order found)))
       (record {
         replies =
-            order_placed v tests.0 (members K M order) starts blockers all rows fits room blockers-room ∙ ap Placed ends;
+            order_placed v tests.0 (members K M order) starts blockers all rows fits room blockers-room ∙ ap Ok (sym ends);
         starts_are =
             sym (found_starts v M rooms starts blockers passes rows order found)
             ∙ sym (order_starts v tests.0 (members K M order) starts blockers all rows fits room blockers-room);
@@ -182,44 +174,43 @@ module _ (v : View) (M : ℕ) where
       })
 
 -- without a plan, be it a refusal or that nothing was found, both buffers stay as they were
-pub groups_keep : (v : View) (M : ℕ) (rooms starts blockers : List ℕ) → ((e : ℕ) → (groups_reply v M rooms).outcome ≡ Grouped e → ⊥) →
+pub groups_keep : (v : View) (M : ℕ) (rooms starts blockers : List ℕ) → ((plan : Grouped) → groups_reply v M rooms ≢ Ok (Some plan)) →
     (groups_starts v M rooms starts ≡ starts) × (groups_blockers v M rooms blockers ≡ blockers)
 unfolding groups_reply reply_after best_reply
 groups_keep v M rooms starts blockers unfound = by_check (check_groups v M rooms) refl (grouped v M) refl
   where
-    by_check : (c : Checked) → check_groups v M rooms ≡ c → (best : Best) → grouped v M ≡ best →
+    by_check : (c : Result Unit Refusal) → check_groups v M rooms ≡ c → (best : Best) → grouped v M ≡ best →
         (groups_starts v M rooms starts ≡ starts) × (groups_blockers v M rooms blockers ≡ blockers)
-    by_check (checked.Refused why) is best found =
+    by_check (Err why) is best found =
         (sym (refused_starts v M rooms starts blockers why is), sym (refused_blockers v M rooms starts blockers why is))
-    by_check checked.Sound is none_met found =
+    by_check (Ok _) is none_met found =
         (sym (nothing_starts v M rooms starts blockers is found), sym (nothing_blockers v M rooms starts blockers is found))
-    by_check checked.Sound is (met rows order) found = absurd (unfound (top (problem_of v) rows) (rw (is, found) refl))
+    by_check (Ok _) is (met rows order) found =
+        absurd (unfound (record { end = top (problem_of v) rows; order = order_told order }) (rw (is, found) refl))
 
--- two outcomes that are told alike, each with an order beside it, are the same, and so are the two orders; but beside a refusal none is
--- told
-pub grouping_told_whole : (g g' : Grouping) (order order' : List ℕ) → grouping_told g order ≡ grouping_told g' order' →
-    (g ≡ g') × (((why : Refusal) → g ≢ Refused why) → order ≡ order')
+-- two replies that are told alike are the same
+pub grouping_told_whole : (r r' : Result (Option Grouped) Refusal) → grouping_told r ≡ grouping_told r' → r ≡ r'
 unfolding grouping_told
-grouping_told_whole (Grouped e) (Grouped e') order order' h =
-    (ap Grouped (ap (λ (t : Told ℕ). get_or t.1 1 0) h), λ none. ap (λ (t : Told ℕ). drop 2 t.1) h)
-grouping_told_whole (Grouped e) NothingFound order order' h = absurd (omega (arith, ap (λ (t : Told ℕ). get_or t.1 0 0) h))
-grouping_told_whole NothingFound (Grouped e') order order' h = absurd (omega (arith, ap (λ (t : Told ℕ). get_or t.1 0 0) h))
-grouping_told_whole NothingFound NothingFound order order' h = (refl, λ none. ap (λ (t : Told ℕ). drop 2 t.1) h)
-grouping_told_whole (Grouped e) (Refused why) order order' h = absurd (refusal_told_fault why _ _ (sym h))
-grouping_told_whole NothingFound (Refused why) order order' h = absurd (refusal_told_fault why _ _ (sym h))
-grouping_told_whole (Refused why) (Grouped e) order order' h = absurd (refusal_told_fault why _ _ h)
-grouping_told_whole (Refused why) NothingFound order order' h = absurd (refusal_told_fault why _ _ h)
-grouping_told_whole (Refused why) (Refused why') order order' h =
-    (ap Refused (refusal_told_whole why why' h), λ none. absurd (none why refl))
+grouping_told_whole (Ok (Some plan)) (Ok (Some plan')) h =
+    ap₂ (λ (e : ℕ) (o : List ℕ). Ok (Some (record { end = e; order = o })))
+    (ap (λ (t : Told ℕ). get_or t.1 1 0) h) (ap (λ (t : Told ℕ). drop 2 t.1) h)
+grouping_told_whole (Ok (Some plan)) (Ok None) h = absurd (omega (arith, ap (λ (t : Told ℕ). get_or t.1 0 0) h))
+grouping_told_whole (Ok None) (Ok (Some plan)) h = absurd (omega (arith, ap (λ (t : Told ℕ). get_or t.1 0 0) h))
+grouping_told_whole (Ok None) (Ok None) h = refl
+grouping_told_whole (Ok (Some plan)) (Err why) h = absurd (refusal_told_fault why _ _ (sym h))
+grouping_told_whole (Ok None) (Err why) h = absurd (refusal_told_fault why _ _ (sym h))
+grouping_told_whole (Err why) (Ok (Some plan)) h = absurd (refusal_told_fault why _ _ h)
+grouping_told_whole (Err why) (Ok None) h = absurd (refusal_told_fault why _ _ h)
+grouping_told_whole (Err why) (Err why') h = ap Err (refusal_told_whole why why' h)
 
 -- two results that meet the contract are equal
-pub same_groups : (v : View) (M : ℕ) (rooms starts blockers : List ℕ) (a a' : GroupsReply) (b b' c c' : List ℕ) →
+pub same_groups : (v : View) (M : ℕ) (rooms starts blockers : List ℕ) (a a' : Result (Option Grouped) Refusal) (b b' c c' : List ℕ) →
     a ≡ groups_reply v M rooms → b ≡ groups_starts v M rooms starts → c ≡ groups_blockers v M rooms blockers →
     a' ≡ groups_reply v M rooms → b' ≡ groups_starts v M rooms starts → c' ≡ groups_blockers v M rooms blockers →
     (a ≡ a') × (b ≡ b') × (c ≡ c')
 same_groups v M rooms starts blockers a a' b b' c c' h k l h' k' l' = (h ∙ sym h', k ∙ sym k', l ∙ sym l')
 
-module _ (q : Request) (whole : Whole q) (rooms : List ℕ) (passes : check_groups (view q) (view q).demand_count rooms ≡ checked.Sound) where
+module _ (q : Request) (whole : Whole q) (rooms : List ℕ) (passes : check_groups (view q) (view q).demand_count rooms ≡ Ok tt) where
   abbrev v : View
   v = view q
 
@@ -227,7 +218,7 @@ module _ (q : Request) (whole : Whole q) (rooms : List ℕ) (passes : check_grou
   all = v.demand_count
 
   -- the tests that passed
-  tests : (check v ≡ checked.Sound) × (check_rooms all rooms ≡ checked.Sound) × (groupable all all ≡ true)
+  tests : (check v ≡ Ok tt) × (check_rooms all rooms ≡ Ok tt) × (groupable all all ≡ true)
   tests = groups_passed v all rooms passes
 
   -- there is a demand
@@ -246,32 +237,36 @@ module _ (q : Request) (whole : Whole q) (rooms : List ℕ) (passes : check_grou
   -- what is told of a search is told of the groups
   told_alike : (limit : ℕ) (lent : Buffers) (a : search.Answer) (o : search.Outcome) →
       Promise (problem_of v) v.band.slots (bound_of v) limit [] (listing all) a o → grouped v all ≡ a.best →
-      AsSearch all (outcome_told o) (take all (buffers_kept v a.best lent).order) (best_reply v (grouped v all))
+      AsSearch all (outcome_told o) (take all (buffers_kept v a.best lent).order) (Ok (best_reply (problem_of v) (grouped v all)))
   unfolding Promise outcome_told grouping_of best_reply buffers_kept ends_at
   told_alike limit lent a (search.finished e) f is =
       let found : grouped v all ≡ met (fill (problem_of v) [] f.order) f.order = is ∙ f.shown.best_is in
       let long : length f.order ≡ all = order_long v all some (fill (problem_of v) [] f.order) f.order found in
+      let rows : List Row = fill (problem_of v) [] f.order in
+      let plan : Grouped = record { end = top (problem_of v) rows; order = order_told f.order } in
       record {
-        same_outcome = rw found (ap Grouped f.shown.order_ends);
+        same_outcome = (plan, rw found refl, f.shown.order_ends);
         same_order =
-            λ end finished.
-            rw (found, f.shown.best_is)
-            (told_front f.order all long ∙ sym (front_written all f.order lent.order long));
+            λ end told finished is_told.
+            let told_is : ◌≡◌ {A = Result (Option Grouped) Refusal} (Ok (Some plan)) (Ok (Some told)) = rw found at is_told in
+            let same : told ≡ plan = sym cc in
+            rw f.shown.best_is
+            (ap (λ (p : Grouped). take all p.order) same ∙ told_front f.order all long ∙ sym (front_written all f.order lent.order long));
       }
   told_alike limit lent a search.nothing_fits n is =
       let none : grouped v all ≡ none_met = is ∙ n.best_is in
       record {
         same_outcome = rw none refl;
-        same_order = λ end finished. absurd (let z : ◌≡◌ {A = ℕ} 0 1 = cc in omega arith);
+        same_order = λ end told finished is_told. absurd (let z : ◌≡◌ {A = ℕ} 0 1 = cc in omega arith);
       }
   told_alike limit lent a (search.unfinished e) u is =
-      record { same_outcome = tt; same_order = λ end finished. absurd (let z : ◌≡◌ {A = ℕ} 0 1 = cc in omega arith) }
+      record { same_outcome = tt; same_order = λ end told finished is_told. absurd (let z : ◌≡◌ {A = ℕ} 0 1 = cc in omega arith) }
   told_alike limit lent a search.unfinished_empty u is =
-      record { same_outcome = tt; same_order = λ end finished. absurd (let z : ◌≡◌ {A = ℕ} 0 1 = cc in omega arith) }
+      record { same_outcome = tt; same_order = λ end told finished is_told. absurd (let z : ◌≡◌ {A = ℕ} 0 1 = cc in omega arith) }
 
   -- groups of one demand each and a search that settles the question, under whatever limit and with whatever buffers, tell the same end and
   -- the same order, or both that there is nothing
-  pub groups_as_search : (limit : ℕ) (lent : Buffers) (a : Answer) → search_reply v limit (rooms_of lent) ≡ reply.Answered a →
+  pub groups_as_search : (limit : ℕ) (lent : Buffers) (a : Answer) → search_reply v limit (rooms_of lent) ≡ Ok a →
       settles a.outcome ≡ true → AsSearch all a.outcome (take all (buffers_after v limit lent).order) (groups_reply v all rooms)
   unfolding search_reply buffers_after unless_refused groups_reply reply_after answer_told searched
   groups_as_search limit lent a e settled =
@@ -279,20 +274,23 @@ module _ (q : Request) (whole : Whole q) (rooms : List ℕ) (passes : check_grou
       let done : search.settled (searched v limit).outcome ≡ true
       = sym (settles_told (searched v limit).outcome) ∙ ap (λ (x : Answer). settles x.outcome) same ∙ settled in
       let along : List ℕ = take all (buffers_kept v (searched v limit).best lent).order in
-      let alike : AsSearch all (outcome_told (searched v limit).outcome) along (best_reply v (grouped v all))
+      let alike : AsSearch all (outcome_told (searched v limit).outcome) along (Ok (best_reply (problem_of v) (grouped v all)))
       = told_alike limit lent (searched v limit) (searched v limit).outcome
       (search_promise (problem_of v) v.band.slots (bound_of v) limit [] (listing all) grounds) (best_searched limit done) in
       rw (passes, passed)
-      (subst (λ (x : Answer). AsSearch all x.outcome along (best_reply v (grouped v all))) same alike)
+      (subst (λ (x : Answer). AsSearch all x.outcome along (Ok (best_reply (problem_of v) (grouped v all)))) same alike)
 
   -- nothing found is told exactly where no plan is allowed
-  pub groups_nothing : ((groups_reply v all rooms).outcome ≡ NothingFound → (plan : List ℕ) → AllowedPlan v plan → ⊥)
-      × (((plan : List ℕ) → AllowedPlan v plan → ⊥) → (groups_reply v all rooms).outcome ≡ NothingFound)
+  pub groups_nothing : (groups_reply v all rooms ≡ Ok None → (plan : List ℕ) → AllowedPlan v plan → ⊥)
+      × (((plan : List ℕ) → AllowedPlan v plan → ⊥) → groups_reply v all rooms ≡ Ok None)
   unfolding groups_reply reply_after best_reply grouped start_at
   groups_nothing = (
     (λ told plan allowed.
         exactly.0
-        (none_told (grouped v all) (sym (ap (λ (c : Checked). (reply_after c (best_reply v (grouped v all))).outcome) passes) ∙ told))
+        (told_none (problem_of v) (grouped v all)
+        (let none : ◌≡◌ {A = Result (Option Grouped) Refusal} (Ok (best_reply (problem_of v) (grouped v all))) (Ok None)
+        = sym (ap (λ (c : Result Unit Refusal). reply_after c (best_reply (problem_of v) (grouped v all))) passes) ∙ told in
+        sym cc))
         (start_at plan)
         (slots_to_ends v plan (check_sound v (whole_counted q whole) tests.0)
         (checked_limits q whole tests.0).routes_there allowed)),
@@ -310,7 +308,3 @@ module _ (q : Request) (whole : Whole q) (rooms : List ℕ) (passes : check_grou
       exactly : (grouped v all ≡ none_met → (plan : ℕ → ℕ) → Allowed (problem_of v) v.band.slots [] (listing all) plan → ⊥)
           × (((plan : ℕ → ℕ) → Allowed (problem_of v) v.band.slots [] (listing all) plan → ⊥) → grouped v all ≡ none_met)
       exactly = theory.nothing_exactly (problem_of v) v.band.slots (bound_of v) all some grounds
-
-      none_told : (best : Best) → (best_reply v best).outcome ≡ NothingFound → best ≡ none_met
-      none_told none_met e = refl
-      none_told (met rows order) e = absurd (let z : ◌≡◌ {A = ℕ} 0 1 = cc in omega arith)

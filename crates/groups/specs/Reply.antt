@@ -1,28 +1,25 @@
 -- What groups reply, and what the two lent buffers hold afterwards.
-use Rattle.std.specs.Prelude.{ℕ, Bool, ◌&&◌, List, [], ◌∷◌, leb, replicate}
+use Rattle.refusal.specs.declared.Refusal.{Refusal}
+use Rattle.std.specs.Prelude.{ℕ, Bool, ◌&&◌, List, [], ◌∷◌, leb, replicate, Option, Some, None, Result, Ok, Err}
 use Rattle.refusal.specs.declared.Refusal.TheVariants.{GroupsOutside}
 use Rattle.refusal.specs.Told.{Told, refusal_told}
-use Rattle.theory.specs.Problem.{top}
+use Rattle.theory.specs.Problem.{Problem, top}
 use Rattle.theory.specs.Walk.{Best, none_met, met}
 use Rattle.theory.specs.Groups as theory
-use Rattle.request.specs.declared.Checked.{Checked}
-use Rattle.request.specs.declared.Checked.TheVariants as checked
 use Rattle.request.specs.View.{View}
 use Rattle.request.specs.Check.{then, must, check}
 use Rattle.request.specs.Sharing.{problem_of}
 use Rattle.lent.specs.Lent.{check_rooms, over, unless_refused}
 use Rattle.meeting.specs.Plan.{starts_of}
 use Rattle.placing.specs.FirstFit.{blockers_of}
-use Rattle.groups.specs.declared.GroupsReply.{GroupsReply}
-use Rattle.groups.specs.declared.Grouping.{Grouping}
-use Rattle.groups.specs.declared.Grouping.TheVariants.{Grouped, NothingFound, Refused}
+use Rattle.groups.specs.declared.Grouped.{Grouped}
 
 -- K demands can be cut into M groups: 1 to 8 of them, and no more than there are demands
 unfoldable pub groupable : ℕ → ℕ → Bool
 groupable K M = leb 1 M && (leb M 8 && leb M K)
 
 -- all that is tested before anything is tried: the request, 10 for the starts and for the blockers, by the rooms of the two, then 24
-unfoldable pub check_groups : View → ℕ → List ℕ → Checked
+unfoldable pub check_groups : View → ℕ → List ℕ → Result Unit Refusal
 unfolding then must check check_rooms groupable
 check_groups v M rooms =
     then (check v) (then (check_rooms v.demand_count rooms) (must (groupable v.demand_count M) (GroupsOutside M)))
@@ -37,22 +34,21 @@ unfoldable pub order_told : List ℕ → List ℕ
 unfolding over
 order_told order = over order (replicate 8 0)
 
--- the reply where all tests pass: the end of the best plan with the order that gave it, or that nothing was found
-unfoldable pub best_reply : View → Best → GroupsReply
+-- the best of all group orders as it is told: the end of its plan, with the order that gave it; or none
+unfoldable pub best_reply : Problem → Best → Option Grouped
 unfolding order_told
-best_reply v none_met = record { outcome = NothingFound; order = order_told [] }
-best_reply v (met rows order) = record { outcome = Grouped (top (problem_of v) rows); order = order_told order }
+best_reply P none_met = None
+best_reply P (met rows order) = Some (record { end = top P rows; order = order_told order })
 
 -- a check, and where it passes the reply
-unfoldable pub reply_after : Checked → GroupsReply → GroupsReply
-unfolding order_told
-reply_after checked.Sound reply = reply
-reply_after (checked.Refused why) reply = record { outcome = Refused why; order = order_told [] }
+unfoldable pub reply_after : Result Unit Refusal → Option Grouped → Result (Option Grouped) Refusal
+reply_after (Ok _) best = Ok best
+reply_after (Err why) best = Err why
 
 -- the reply
-unfoldable pub groups_reply : View → ℕ → List ℕ → GroupsReply
+unfoldable pub groups_reply : View → ℕ → List ℕ → Result (Option Grouped) Refusal
 unfolding reply_after check_groups best_reply grouped
-groups_reply v M rooms = reply_after (check_groups v M rooms) (best_reply v (grouped v M))
+groups_reply v M rooms = reply_after (check_groups v M rooms) (best_reply (problem_of v) (grouped v M))
 
 -- the starts after the best was found: by listing position those of its plan, the rest as it was; without a plan all as it was
 unfoldable pub best_starts : View → Best → List ℕ → List ℕ
@@ -78,7 +74,8 @@ groups_blockers v M rooms blockers = unless_refused (check_groups v M rooms) blo
 
 -- what a reply says: 0, then 1 and the plan's end, or 2 and 0 where nothing was found, and the eight places of the order; or the number
 -- of the fault and its place
-unfoldable pub grouping_told : Grouping → List ℕ → Told ℕ
-grouping_told (Grouped end) order = (0, 1 ∷ end ∷ order)
-grouping_told NothingFound order = (0, 2 ∷ 0 ∷ order)
-grouping_told (Refused why) order = refusal_told why
+unfoldable pub grouping_told : Result (Option Grouped) Refusal → Told ℕ
+unfolding order_told
+grouping_told (Ok (Some plan)) = (0, 1 ∷ plan.end ∷ plan.order)
+grouping_told (Ok None) = (0, 2 ∷ 0 ∷ order_told [])
+grouping_told (Err why) = refusal_told why

@@ -1,13 +1,12 @@
 -- What groups test before anything is tried.
 use Prim.Native.Nat.{ℕ, ◌≤◌, ◌<◌}
-use Rattle.std.specs.Prelude.{Bool, true, false, ◌&&◌, List, ◌≡◌, leb}
+use Rattle.std.specs.Prelude.{Bool, true, false, ◌&&◌, List, ◌≡◌, leb, Ok, Err}
 use Rattle.std.proofs.Math.Path.{ap}
 use Rattle.std.proofs.Common.{ap₂, ◌∙◌, arith, leb-true, le-leb}
 use Rattle.std.proofs.lemmas.Bool.{lt-leb}
 use Rattle.refusal.specs.declared.Refusal.{Refusal}
 use Rattle.refusal.specs.declared.Refusal.TheVariants.{GroupsOutside}
 use Rattle.theory.proofs.TestLaws.{and_first, and_second}
-use Rattle.request.specs.declared.Checked.TheVariants as checked
 use Rattle.request.specs.View.{View}
 use Rattle.request.specs.Check.{then, must, check}
 use Rattle.request.proofs.CheckLaws.{then_sound, then_refused, first_sound, next_sound, test_held}
@@ -42,11 +41,11 @@ groupable_says K M can =
 
 module _ (v : View) (M : ℕ) (rooms : List ℕ) where
   -- a refused request
-  pub request_refused_lem : (why : Refusal) → check v ≡ checked.Refused why → check_groups v M rooms ≡ checked.Refused why
+  pub request_refused_lem : (why : Refusal) → check v ≡ Err why → check_groups v M rooms ≡ Err why
   unfolding check_groups
   request_refused_lem why fails = then_refused (check v) _ why fails
 
-  module _ (passes : check v ≡ checked.Sound) where
+  module _ (passes : check v ≡ Ok tt) where
     -- a sound request leaves the buffers and the groups to test
     request_passes : check_groups v M rooms ≡
         then (check_rooms v.demand_count rooms) (must (groupable v.demand_count M) (GroupsOutside M))
@@ -54,27 +53,27 @@ module _ (v : View) (M : ℕ) (rooms : List ℕ) where
     request_passes = then_sound (check v) _ passes
 
     -- a buffer without room
-    pub rooms_refused : (why : Refusal) → check_rooms v.demand_count rooms ≡ checked.Refused why →
-        check_groups v M rooms ≡ checked.Refused why
+    pub rooms_refused : (why : Refusal) → check_rooms v.demand_count rooms ≡ Err why →
+        check_groups v M rooms ≡ Err why
     rooms_refused why fails = request_passes ∙ then_refused (check_rooms v.demand_count rooms) _ why fails
 
-    module _ (roomy : check_rooms v.demand_count rooms ≡ checked.Sound) where
+    module _ (roomy : check_rooms v.demand_count rooms ≡ Ok tt) where
       -- with room the groups decide
       rooms_pass : check_groups v M rooms ≡ must (groupable v.demand_count M) (GroupsOutside M)
       rooms_pass = request_passes ∙ then_sound (check_rooms v.demand_count rooms) _ roomy
 
-      pub groups_pass : groupable v.demand_count M ≡ true → check_groups v M rooms ≡ checked.Sound
+      pub groups_pass : groupable v.demand_count M ≡ true → check_groups v M rooms ≡ Ok tt
       unfolding must
       groups_pass can = rooms_pass ∙ ap (λ (b : Bool). must b (GroupsOutside M)) can
 
       -- 24: so many groups cannot be
-      pub groups_outside : groupable v.demand_count M ≡ false → check_groups v M rooms ≡ checked.Refused (GroupsOutside M)
+      pub groups_outside : groupable v.demand_count M ≡ false → check_groups v M rooms ≡ Err (GroupsOutside M)
       unfolding must
       groups_outside cannot = rooms_pass ∙ ap (λ (b : Bool). must b (GroupsOutside M)) cannot
 
   -- where all tests pass the request is sound, both buffers have room, and so many groups can be
-  pub groups_passed : check_groups v M rooms ≡ checked.Sound →
-      (check v ≡ checked.Sound) × (check_rooms v.demand_count rooms ≡ checked.Sound) × (groupable v.demand_count M ≡ true)
+  pub groups_passed : check_groups v M rooms ≡ Ok tt →
+      (check v ≡ Ok tt) × (check_rooms v.demand_count rooms ≡ Ok tt) × (groupable v.demand_count M ≡ true)
   unfolding check_groups
   groups_passed passes =
       let K : ℕ = v.demand_count in

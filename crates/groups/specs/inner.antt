@@ -2,3 +2,4 @@
 pub mod Table
 pub mod Members
 pub mod Walk
+pub mod Answer

@@ -10,91 +10,57 @@ use meeting::compacted;
 use order::members_of;
 use placing::first_fit;
 use refusal::Refusal;
-use request::{Checked, Request, check_request};
+use request::{Request, check_request};
 use walk::best_order;
 
 mod order;
 mod table;
 mod walk;
 
-// How the group orders came out: the end of the best plan; or first fit refuses along each of them; or why nothing was tried.
+// A plan that a group order gave: its end, and the order of the groups, as many entries as there are groups. Behind them all are 0.
 #[derive(Drop)]
-pub enum Grouping {
-    Grouped(u16),
-    NothingFound,
-    Refused(Refusal),
-}
-
-// An outcome, and the order of the groups that gave it: as many entries as there are groups. Behind them, and without a plan, all are 0.
-#[derive(Drop)]
-pub struct GroupsReply {
-    pub outcome: Grouping,
+pub struct Grouped {
+    pub end: u16,
+    // Kept as it is: a C program gets these eight places from `lightplan_groups`, and the library has no heap.
     pub order: [u16; 8],
 }
 
-// The best order of the groups: whether there is one, the end of its plan, and the order, 0 behind it. Without one the others mean
-// nothing.
-#[derive(Drop)]
-struct BestOrder {
-    found: bool,
-    end: u16,
-    order: [u16; 8],
-}
-
-// The best that first fit makes of the demands in m groups: the first group order, in listing order, with the lowest end. With a plan
-// `starts` gets its starts and `blockers` who kept each demand from starting lower, 65535 for nobody, both by listing position; without
-// one, and on a refusal, both stay as they were. First fit runs once more along the order found, for what is written.
-pub fn groups(request: Request, m: usize, starts: &mut [u16], blockers: &mut [u16]) -> GroupsReply
+// The best that first fit makes of the demands in m groups: the first group order, in listing order, with the lowest end; none, where first
+// fit refuses along each of them. With a plan `starts` gets its starts and `blockers` who kept each demand from starting lower, 65535 for
+// nobody, both by listing position; without one, and on a refusal, both stay as they were. First fit runs once more along the order found,
+// for what is written.
+pub fn groups(
+    request: Request,
+    m: usize,
+    starts: &mut [u16],
+    blockers: &mut [u16],
+) -> Result<Option<Grouped>, Refusal>
     ensures reply { result ≡ groups_reply (view request) m (length starts.old ∷ length blockers.old ∷ []) }
     ensures starts { starts.new ≡
         groups_starts (view request) m (length starts.old ∷ length blockers.old ∷ []) starts.old }
     ensures blockers { blockers.new ≡
         groups_blockers (view request) m (length starts.old ∷ length blockers.old ∷ []) blockers.old }
 {
-    let checked = check_groups(request, m, starts.len(), blockers.len());
-    if let Checked::Refused(why) = checked {
-        return GroupsReply {
-            outcome: Grouping::Refused(why),
-            order: [0u16; 8],
-        };
-    }
-    let compact = compacted(request);
-    let best = best_order(compact, m);
-    let found = best.found;
-    if !found {
-        return GroupsReply {
-            outcome: Grouping::NothingFound,
-            order: [0u16; 8],
-        };
-    }
+    check_groups(request, m, starts.len(), blockers.len())?;
+    let Some(best) = best_order(compacted(request), m) else {
+        return Ok(None);
+    };
     let count = request.demand_count;
-    let order = best.order;
-    let along = members_of(count, m, &order);
-    first_fit(request, &along[..count], starts, blockers);
-    GroupsReply {
-        outcome: Grouping::Grouped(best.end),
-        order,
-    }
+    let along = members_of(count, &best.order[..m]);
+    let _ = first_fit(request, &along[..count], starts, blockers);
+    Ok(Some(best))
 }
 
 // What is tested before anything is tried: the request, then 10 for the two buffers, by their rooms, then 24.
-fn check_groups(request: Request, m: usize, starts: usize, blockers: usize) -> Checked
+fn check_groups(request: Request, m: usize, starts: usize, blockers: usize) -> Result<(), Refusal>
     ensures { result ≡ check_groups (view request) m (starts ∷ blockers ∷ []) }
 {
-    let checked = check_request(request);
-    if let Checked::Refused(why) = checked {
-        return Checked::Refused(why);
-    }
-    let count = request.demand_count;
-    let rooms = [starts, blockers];
-    let roomy = check_rooms(count, &rooms);
-    if let Checked::Refused(why) = roomy {
-        return Checked::Refused(why);
-    }
-    if can_group(count, m) {
-        Checked::Sound
+    check_request(request)?;
+    check_rooms(request.demand_count, &[starts, blockers])?;
+    if can_group(request.demand_count, m) {
+        Ok(())
     } else {
-        Checked::Refused(Refusal::GroupsOutside(m))
+        Err(Refusal::GroupsOutside(m))
     }
 }
 
@@ -102,11 +68,5 @@ fn check_groups(request: Request, m: usize, starts: usize, blockers: usize) -> C
 fn can_group(count: usize, m: usize) -> bool
     ensures { result ≡ groupable count m }
 {
-    if m == 0 {
-        return false;
-    }
-    if 8 < m {
-        return false;
-    }
-    m <= count
+    (1..=8).contains(&m) && m <= count
 }

@@ -1,25 +1,22 @@
 // What the walk asks of a request, worked out once: who meets whom, and where the groups begin.
-ghost use Rattle.std.specs.Prelude.{◌≡◌, ℕ, ◌≤◌, get_or};
+ghost use Rattle.std.specs.Prelude.{◌≡◌, ℕ, ◌≤◌, false, replicate, get_or};
 ghost use Rattle.theory.specs.Groups.{group_size};
 ghost use Rattle.groups.specs.inner.Table.{MeetingTable, GroupStarts};
 
 use meeting::word_row;
 
-// Who shares a link with whom, by the words of the routes, a row for each demand.
+// Writes who shares a link with whom, by the words of the routes, a row for each demand, into a table in which nobody does. The table is lent:
+// one that is returned stands on the stack twice.
 #[inline(never)]
-pub(crate) fn meeting_table(words: [u64; 200], count: usize) -> [[bool; 200]; 200]
+pub(crate) fn fill_table(table: &mut [[bool; 200]; 200], words: [u64; 200], count: usize)
+    requires empty { table.old ≡ replicate 200 (replicate 200 false) }
     requires count_bound { count ≤ 200 }
     requires by_index { (i : ℕ) → count ≤ i → get_or words i 0 ≡ 0 }
-    ensures { MeetingTable words result }
+    ensures { MeetingTable words table.new }
 {
-    let mut table = [[false; 200]; 200];
-    let mut i: usize = 0;
-    while i < count {
-        let row = word_row(words, i);
-        table[i] = row;
-        i += 1;
+    for i in 0..count {
+        table[i] = word_row(words, i);
     }
-    table
 }
 
 // How many demands group g has: the first ones have one more, where the demands do not come out even.
@@ -37,11 +34,8 @@ pub(crate) fn group_starts(count: usize, m: usize) -> [usize; 9]
     ensures { GroupStarts count m result }
 {
     let mut first = [0usize; 9];
-    let mut g: usize = 0;
-    while g < m {
-        let next = first[g] + group_size(count, m, g);
-        first[g + 1] = next;
-        g += 1;
+    for g in 0..m {
+        first[g + 1] = first[g] + group_size(count, m, g);
     }
     first
 }

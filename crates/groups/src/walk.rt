@@ -1,235 +1,154 @@
 // The walk over the orders of the groups: a tree, depth first. The groups placed so far keep their starts while those after them change.
-ghost use Rattle.std.specs.Prelude.{◌≡◌, List, ◌≤◌, ◌<◌, max, get_or, length};
-ghost use Rattle.theory.specs.Problem.{Row};
-ghost use Rattle.theory.specs.inner.Tried.{Lead};
+ghost use Rattle.std.specs.Prelude.{◌≡◌, true, false, ◌≤◌, ◌<◌, get_or};
 ghost use Rattle.theory.specs.Groups as theory;
+ghost use Rattle.theory.specs.inner.Tried.{Lead};
 ghost use Rattle.meeting.specs.inner.Small.{problem_in, Small};
-ghost use Rattle.search.specs.inner.Arrays.{problem_of};
-ghost use Rattle.groups.specs.inner.Walk.{OnTable, GroupAsked, GroupTried, Ready, Held, tried_group, tried_from, OrderFound};
+ghost use Rattle.groups.specs.inner.Walk.{Ready, GroupPlaced, top_with, Held, tried_group, tried_from};
+ghost use Rattle.groups.specs.Reply.{best_reply};
 
-use crate::BestOrder;
-use crate::table::{group_starts, meeting_table};
-use board::{Spot, lowest_spot};
+use crate::Grouped;
+use crate::table::{fill_table, group_starts};
+use board::lowest_spot;
 use meeting::Compact;
 
-// The higher of two slots.
-fn higher(a: u16, b: u16) -> u16
-    ensures { result ≡ max a b }
-{
-    if a < b { b } else { a }
-}
-
-// Places the demands from one listing position up to another beside those that stand, each so that it ends below the mark. It answers the
-// largest end, `top` being that of those that stand; or the mark where a demand has no such start, and then the arrays mean nothing.
-fn place_group(
-    table: &[[bool; 200]; 200],
-    widths: &[u16; 200],
-    guard: u16,
-    count: usize,
-    mark: u16,
-    from: usize,
-    to: usize,
-    top: u16,
-    starts: &mut [u16; 200],
-    ends: &mut [u16; 200],
-) -> u16
-    requires on_table { OnTable table.now widths.now guard count }
-    requires le_mark { (1 ≤ mark) × (from ≤ to) × (to ≤ count) }
-    requires starts_len { (length starts.old ≡ 200) × (length ends.old ≡ 200) }
-    ensures { (rows : List Row) →
-        GroupAsked (problem_of table.now widths.now guard) count rows from to top starts.old ends.old →
-        GroupTried (problem_of table.now widths.now guard) count rows from to mark ends.old result
-        starts.new ends.new }
-{
-    let slots = mark - 1;
-    let mut end = top;
-    let mut i = from;
-    while i < to {
-        let row = table[i];
-        let width = widths[i];
-        let spot = lowest_spot(&row, starts, ends, count, width, guard, slots);
-        let Spot::At(start) = spot else {
-            return mark;
-        };
-        starts[i] = start;
-        ends[i] = start + width;
-        end = higher(end, start + width);
-        i += 1;
-    }
-    end
-}
-
-// Group g goes next, unless it stands already: the orders below it are tried. What is lent is not changed but the best: the arrays of
-// the level below are its own. Where its demands do not all end below the mark nothing below is tried, since no later demand lowers an
-// end. The mark, the end to get below, is an array of one entry so that it can be lent.
-#[cycle(try_group_try_groups)]
-fn try_group(
-    table: &[[bool; 200]; 200],
-    widths: &[u16; 200],
-    guard: u16,
-    count: usize,
-    first: &[usize; 9],
+// What the walk does not change: a request made small, who meets whom in it, where its groups begin, and how many they are.
+#[derive(Drop)]
+struct Cut<'a> {
+    compact: &'a Compact,
+    table: &'a [[bool; 200]; 200],
+    first: [usize; 9],
     m: usize,
-    used: &[bool; 8],
-    order: &[u16; 8],
-    placed: usize,
-    g: usize,
-    top: u16,
-    starts: &[u16; 200],
-    ends: &[u16; 200],
-    mark: &mut [u16; 1],
-    along: &mut [u16; 8],
-)
-    requires ready { Ready table.now widths.now guard count first.now m used.now order.now placed top starts.now ends.now }
-    requires g_lt_m { (g < m) × (length mark.old ≡ 1) × (1 ≤ get_or mark.old 0 0) }
-    ensures kept { (length mark.new ≡ 1) × (1 ≤ get_or mark.new 0 0) }
-    ensures tried { (lead : Lead) → Held mark.old along.old lead →
-        Held mark.new along.new
-        (tried_group (problem_of table.now widths.now guard) count m used.now order.now placed g lead) }
-{
-    if used[g] {
-        return;
-    }
-    let mut at = *starts;
-    let mut past = *ends;
-    let best = mark[0];
-    let end = place_group(
-        table,
-        widths,
-        guard,
-        count,
-        best,
-        first[g],
-        first[g + 1],
-        top,
-        &mut at,
-        &mut past,
-    );
-    if best <= end {
-        return;
-    }
-    let mut down = *order;
-    down[placed] = g as u16;
-    if placed + 1 == m {
-        mark[0] = end;
-        *along = down;
-        return;
-    }
-    let mut taken = *used;
-    taken[g] = true;
-    try_groups(
-        table,
-        widths,
-        guard,
-        count,
-        first,
-        m,
-        &taken,
-        &down,
-        placed + 1,
-        0,
-        end,
-        &at,
-        &past,
-        mark,
-        along,
-    );
 }
 
-// With `placed` groups standing, those from group g on are tried in turn. `top` is the largest end so far; once the mark has come down to
-// it, none of them can end lower.
-#[cycle(try_group_try_groups)]
-fn try_groups(
-    table: &[[bool; 200]; 200],
-    widths: &[u16; 200],
-    guard: u16,
-    count: usize,
-    first: &[usize; 9],
-    m: usize,
-    used: &[bool; 8],
-    order: &[u16; 8],
+// The groups that stand: which, in what order, and how many; by listing position the starts and the ends of their demands; and the
+// largest end.
+#[derive(Clone, Copy)]
+struct Level {
+    used: [bool; 8],
+    // Kept as it is: eight places and how many are taken, since a level is copied as the walk goes down and there is no heap.
+    order: [u16; 8],
     placed: usize,
-    g: usize,
+    // Kept as it is: `lowest_spot` is public and takes the starts and the ends as two arrays, by its clause.
+    starts: [u16; 200],
+    ends: [u16; 200],
     top: u16,
-    starts: &[u16; 200],
-    ends: &[u16; 200],
-    mark: &mut [u16; 1],
-    along: &mut [u16; 8],
-)
-    requires ready { Ready table.now widths.now guard count first.now m used.now order.now placed top starts.now ends.now }
-    requires g_le_m { (g ≤ m) × (length mark.old ≡ 1) × (1 ≤ get_or mark.old 0 0) }
-    ensures kept { (length mark.new ≡ 1) × (1 ≤ get_or mark.new 0 0) }
-    ensures tried { (lead : Lead) → Held mark.old along.old lead →
-        Held mark.new along.new
-        (tried_from (problem_of table.now widths.now guard) count m used.now order.now placed g lead) }
-{
-    if g == m {
-        return;
-    }
-    if mark[0] <= top {
-        return;
-    }
-    try_group(
-        table, widths, guard, count, first, m, used, order, placed, g, top, starts, ends, mark,
-        along,
-    );
-    try_groups(
-        table,
-        widths,
-        guard,
-        count,
-        first,
-        m,
-        used,
-        order,
-        placed,
-        g + 1,
-        top,
-        starts,
-        ends,
-        mark,
-        along,
-    );
 }
 
-// The best order of the groups of a request that passed its tests.
-pub(crate) fn best_order(compact: Compact, m: usize) -> BestOrder
+impl Cut<'_> {
+    // Places group g beside those that stand, each of its demands so that it ends below the mark. It answers whether all could be; if not,
+    // the level means nothing afterwards.
+    // Kept as it is: an `Option` that holds the level would take and hand back its 800 bytes and more for each group, and one that holds
+    // nothing says no more than a `bool`.
+    fn place_group(&self, level: &mut Level, g: usize, mark: u16) -> bool
+        requires ready { Ready self.now level.old }
+        requires free { (g < self.now.m) × (level.old.placed < self.now.m) × (get_or level.old.used g false ≡ false) }
+        requires low { level.old.top < mark }
+        ensures stands { result ≡ true → GroupPlaced self.now level.old g mark level.new }
+        ensures left { result ≡ false → mark ≤ top_with self.now level.old g }
+    {
+        let compact = self.compact;
+        for i in self.first[g]..self.first[g + 1] {
+            let width = compact.widths[i];
+            let Some(start) = lowest_spot(
+                &self.table[i],
+                &level.starts,
+                &level.ends,
+                compact.count,
+                width,
+                u16::from(compact.guard),
+                mark - 1,
+            ) else {
+                return false;
+            };
+            let end = start + width;
+            level.starts[i] = start;
+            level.ends[i] = end;
+            level.top = level.top.max(end);
+        }
+        level.used[g] = true;
+        level.order[level.placed] = g as u16;
+        level.placed += 1;
+        true
+    }
+
+    // The orders in which group g, which does not stand yet, goes next are tried. Where its demands do not all end below the best so far
+    // nothing behind it is tried, since no later demand lowers an end. What is lent is not changed but the best: the level below is its
+    // own.
+    #[cycle(try_groups)]
+    fn try_group(&self, level: &Level, g: usize, best: &mut Grouped)
+        requires ready { Ready self.now level.now }
+        requires free { (g < self.now.m) × (level.now.placed < self.now.m) × (get_or level.now.used g false ≡ false) }
+        requires low { level.now.top < best.old.end }
+        ensures { (lead : Lead) → Held best.old lead →
+            Held best.new (tried_group self.now level.now g lead) }
+    {
+        let mut below = *level;
+        if !self.place_group(&mut below, g, best.end) {
+            return;
+        }
+        if below.placed < self.m {
+            self.try_groups(&below, best);
+        } else {
+            *best = Grouped {
+                end: below.top,
+                order: below.order,
+            };
+        }
+    }
+
+    // The groups that do not stand yet are tried next, one after the other. Once the best end so far has come down to the largest that
+    // stands, none of them can lower it.
+    #[cycle(try_groups)]
+    fn try_groups(&self, level: &Level, best: &mut Grouped)
+        requires ready { Ready self.now level.now }
+        requires some_left { level.now.placed < self.now.m }
+        ensures { (lead : Lead) → Held best.old lead →
+            Held best.new (tried_from self.now level.now 0 lead) }
+    {
+        for g in 0..self.m {
+            if best.end <= level.top {
+                return;
+            }
+            if !level.used[g] {
+                self.try_group(level, g, best);
+            }
+        }
+    }
+}
+
+// The best order of the groups of a request that passed its tests, if first fit places all demands along any. At first the end to get
+// below is the first above the band.
+pub(crate) fn best_order(compact: Compact, m: usize) -> Option<Grouped>
     requires small { Small compact }
     requires le_m { (1 ≤ m) × (m ≤ 8) × (m ≤ compact.count) }
-    ensures { OrderFound (problem_in compact) (theory.grouped (problem_in compact) compact.slots compact.count m) result }
+    ensures { result ≡ best_reply (problem_in compact) (theory.grouped (problem_in compact) compact.slots compact.count m) }
 {
-    let count = compact.count;
-    let slots = compact.slots;
-    let guard = compact.guard as u16;
-    let words = compact.words;
-    let widths = compact.widths;
-    let first = group_starts(count, m);
-    let used = [false; 8];
-    let order = [0u16; 8];
-    let starts = [0u16; 200];
-    let ends = [0u16; 200];
-    let mut mark = [slots + 1];
-    let mut along = [0u16; 8];
-    try_groups(
-        &meeting_table(words, count),
-        &widths,
-        guard,
-        count,
-        &first,
+    let mut table = [[false; 200]; 200];
+    fill_table(&mut table, compact.words, compact.count);
+    let cut = Cut {
+        compact: &compact,
+        table: &table,
+        first: group_starts(compact.count, m),
         m,
-        &used,
-        &order,
-        0,
-        0,
-        0,
-        &starts,
-        &ends,
-        &mut mark,
-        &mut along,
-    );
-    BestOrder {
-        found: mark[0] <= slots,
-        end: mark[0],
-        order: along,
+    };
+    let none_stands = Level {
+        used: [false; 8],
+        order: [0; 8],
+        placed: 0,
+        starts: [0; 200],
+        ends: [0; 200],
+        top: 0,
+    };
+    // Kept as it is: an end above the slots for no order yet, since it is the mark that the first order has to get below; with an `Option`
+    // the mark would stand beside it, and the best end in two places.
+    let mut best = Grouped {
+        end: compact.slots + 1,
+        order: [0; 8],
+    };
+    cut.try_groups(&none_stands, &mut best);
+    if best.end <= compact.slots {
+        Some(best)
+    } else {
+        None
     }
 }

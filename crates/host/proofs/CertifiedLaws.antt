@@ -1,5 +1,5 @@
 -- What a program in C may rely on of certificates: one answer, the library's, with nothing lost, and it keeps what it promises.
-use Rattle.std.specs.Prelude.{ℕ, ◌≤◌, ◌<◌, Bool, cond, true, false, List, ◌≢◌, ◌≡◌, refl, eqb}
+use Rattle.std.specs.Prelude.{ℕ, ◌≤◌, ◌<◌, Bool, cond, true, false, List, Result, Ok, Err, ◌≢◌, ◌≡◌, refl, eqb}
 use Rattle.std.proofs.Common.{sym, ap, subst, ◌∙◌, arith, eq-eqb, ne_eqb}
 use Rattle.theory.proofs.TestLaws.{by_test}
 use Rattle.refusal.specs.declared.Refusal.{Refusal}
@@ -10,7 +10,7 @@ use Rattle.request.specs.RoundTrip.{Bytes}
 use Rattle.reading.specs.Reading.{FileReading, refused, accepted, read_file}
 use Rattle.writing.specs.RoundTripLaws.{accepted_encodes}
 use Rattle.certify.specs.declared.Certified.{Certified}
-use Rattle.certify.specs.declared.Certified.TheVariants.{Best, AtLeast, Refused}
+use Rattle.certify.specs.declared.Certified.TheVariants.{Best, AtLeast}
 use Rattle.certify.specs.Reply.{certify_reply}
 use Rattle.certify.specs.Promise.{NoneBelow, PlanEnds, Promised}
 use Rattle.certify.specs.PromiseLaws.{certify_kept}
@@ -54,60 +54,60 @@ certify_answers file v read starts weights a = ap (λ (r : FileReading). certifi
 -- ---- nothing is lost
 
 -- two replies that a C program is told alike are equal
-pub certify_told_whole : (r r' : Certified) → certify_told r ≡ certify_told r' → r ≡ r'
+pub certify_told_whole : (r r' : Result Certified Refusal) → certify_told r ≡ certify_told r' → r ≡ r'
 unfolding certify_told certified_refused
-certify_told_whole (Best e) (Best e') h = ap (λ (c : LightplanCertified). Best c.end) h
-certify_told_whole (Best e) (AtLeast low e') h = absurd (omega (arith, ap (λ (c : LightplanCertified). c.outcome) h))
-certify_told_whole (Best e) (Refused why) h = absurd (omega (arith, ap (λ (c : LightplanCertified). c.refusal) h, some_number why))
-certify_told_whole (AtLeast low e) (Best e') h = absurd (omega (arith, ap (λ (c : LightplanCertified). c.outcome) h))
-certify_told_whole (AtLeast low e) (AtLeast low' e') h = ap (λ (c : LightplanCertified). AtLeast c.low c.end) h
-certify_told_whole (AtLeast low e) (Refused why) h =
+certify_told_whole (Ok (Best e)) (Ok (Best e')) h = ap (λ (c : LightplanCertified). Ok (Best c.end)) h
+certify_told_whole (Ok (Best e)) (Ok (AtLeast low e')) h = absurd (omega (arith, ap (λ (c : LightplanCertified). c.outcome) h))
+certify_told_whole (Ok (Best e)) (Err why) h = absurd (omega (arith, ap (λ (c : LightplanCertified). c.refusal) h, some_number why))
+certify_told_whole (Ok (AtLeast low e)) (Ok (Best e')) h = absurd (omega (arith, ap (λ (c : LightplanCertified). c.outcome) h))
+certify_told_whole (Ok (AtLeast low e)) (Ok (AtLeast low' e')) h = ap (λ (c : LightplanCertified). Ok (AtLeast c.low c.end)) h
+certify_told_whole (Ok (AtLeast low e)) (Err why) h =
     absurd (omega (arith, ap (λ (c : LightplanCertified). c.refusal) h, some_number why))
-certify_told_whole (Refused why) (Best e) h = absurd (omega (arith, ap (λ (c : LightplanCertified). c.refusal) h, some_number why))
-certify_told_whole (Refused why) (AtLeast low e) h =
+certify_told_whole (Err why) (Ok (Best e)) h = absurd (omega (arith, ap (λ (c : LightplanCertified). c.refusal) h, some_number why))
+certify_told_whole (Err why) (Ok (AtLeast low e)) h =
     absurd (omega (arith, ap (λ (c : LightplanCertified). c.refusal) h, some_number why))
-certify_told_whole (Refused why) (Refused why') h =
-    ap Refused (same_refusal why why' (ap (λ (c : LightplanCertified). c.refusal) h) (ap (λ (c : LightplanCertified). c.place) h))
+certify_told_whole (Err why) (Err why') h =
+    ap Err (same_refusal why why' (ap (λ (c : LightplanCertified). c.refusal) h) (ap (λ (c : LightplanCertified). c.place) h))
 
 -- what was refused of a request file that is accepted is the plan or the certificate, and never the request: that is told as 1 alone
-pub certificate_told_apart : (r : Certified) → (certify_told r).which ≢ 1
+pub certificate_told_apart : (r : Result Certified Refusal) → (certify_told r).which ≢ 1
 unfolding certify_told certified_refused plan_or_certificate
-certificate_told_apart (Best e) h = absurd (omega (arith, h))
-certificate_told_apart (AtLeast low e) h = absurd (omega (arith, h))
-certificate_told_apart (Refused why) h =
+certificate_told_apart (Ok (Best e)) h = absurd (omega (arith, h))
+certificate_told_apart (Ok (AtLeast low e)) h = absurd (omega (arith, h))
+certificate_told_apart (Err why) h =
     by_test (eqb (number_of why) 30)
     (λ (thirty : eqb (number_of why) 30 ≡ true). let z : ◌≡◌ {A = ℕ} 4 1 = rw thirty at h in absurd (omega (arith, z)))
     (λ (other : eqb (number_of why) 30 ≡ false). let z : ◌≡◌ {A = ℕ} 2 1 = rw other at h in absurd (omega (arith, z)))
 
 -- an answer has an outcome, and a refusal none
-pub certified_has_outcome : (r : Certified) → (certify_told r).refusal ≡ 0 → 1 ≤ (certify_told r).outcome
+pub certified_has_outcome : (r : Result Certified Refusal) → (certify_told r).refusal ≡ 0 → 1 ≤ (certify_told r).outcome
 unfolding certify_told certified_refused
-certified_has_outcome (Best e) h = omega arith
-certified_has_outcome (AtLeast low e) h = omega arith
-certified_has_outcome (Refused why) h = absurd (omega (arith, h, some_number why))
+certified_has_outcome (Ok (Best e)) h = omega arith
+certified_has_outcome (Ok (AtLeast low e)) h = omega arith
+certified_has_outcome (Err why) h = absurd (omega (arith, h, some_number why))
 
-pub uncertified_has_none : (r : Certified) → (certify_told r).refusal ≢ 0 → (certify_told r).outcome ≡ 0
+pub uncertified_has_none : (r : Result Certified Refusal) → (certify_told r).refusal ≢ 0 → (certify_told r).outcome ≡ 0
 unfolding certify_told certified_refused
-uncertified_has_none (Best e) h = absurd (h refl)
-uncertified_has_none (AtLeast low e) h = absurd (h refl)
-uncertified_has_none (Refused why) h = refl
+uncertified_has_none (Ok (Best e)) h = absurd (h refl)
+uncertified_has_none (Ok (AtLeast low e)) h = absurd (h refl)
+uncertified_has_none (Err why) h = refl
 
 -- ---- what is told is kept
 
 -- of a reply that keeps its promise
-best_kept : (v : View) (starts : List ℕ) (r : Certified) → Promised v starts r → (certify_told r).outcome ≡ 1 →
+best_kept : (v : View) (starts : List ℕ) (r : Result Certified Refusal) → Promised v starts r → (certify_told r).outcome ≡ 1 →
     PlanEnds v starts (certify_told r).end × NoneBelow v (certify_told r).end
 unfolding Promised certify_told certified_refused
-best_kept v starts (Best e) kept h = kept
-best_kept v starts (AtLeast low e) kept h = absurd (omega (arith, h))
-best_kept v starts (Refused why) kept h = absurd (omega (arith, h))
+best_kept v starts (Ok (Best e)) kept h = kept
+best_kept v starts (Ok (AtLeast low e)) kept h = absurd (omega (arith, h))
+best_kept v starts (Err why) kept h = absurd (omega (arith, h))
 
-least_kept : (v : View) (starts : List ℕ) (r : Certified) → Promised v starts r → (certify_told r).outcome ≡ 2 →
+least_kept : (v : View) (starts : List ℕ) (r : Result Certified Refusal) → Promised v starts r → (certify_told r).outcome ≡ 2 →
     PlanEnds v starts (certify_told r).end × NoneBelow v (certify_told r).low × ((certify_told r).low < (certify_told r).end)
 unfolding Promised certify_told certified_refused
-least_kept v starts (Best e) kept h = absurd (omega (arith, h))
-least_kept v starts (AtLeast low e) kept h = kept
-least_kept v starts (Refused why) kept h = absurd (omega (arith, h))
+least_kept v starts (Ok (Best e)) kept h = absurd (omega (arith, h))
+least_kept v starts (Ok (AtLeast low e)) kept h = kept
+least_kept v starts (Err why) kept h = absurd (omega (arith, h))
 
 -- a file of a request
 module _ (file : List ℕ) (v : View) (bytes : Bytes file) (read : read_file file ≡ accepted v) where

@@ -1,21 +1,18 @@
 -- What a program in C may rely on: each call has one answer; it is the library's, with nothing lost; the refusal 0 is an answer; and a
 -- refusal leaves every lent buffer as it was.
-use Rattle.std.specs.Prelude.{ℕ, ◌*◌, ◌≤◌, true, false, List, [], ◌∷◌, ◌≢◌, ◌≡◌, length, replicate, eqb, ℤ}
+use Rattle.grid.specs.declared.Frequency.{Frequency}
+use Rattle.search.specs.declared.Answer.{Answer}
+use Rattle.std.specs.Prelude.{ℕ, ◌*◌, ◌≤◌, true, false, List, [], ◌∷◌, ◌≢◌, ◌≡◌, length, replicate, eqb, ℤ, Option, Some, None, Result, Ok, Err}
 use Rattle.std.proofs.Math.Path.{refl, sym, ap}
 use Rattle.std.proofs.Common.{ap₂, subst, ◌∙◌, arith}
 use Rattle.theory.proofs.TestLaws.{by_test}
-use Rattle.theory.specs.Walk.{Best, none_met, met}
+use Rattle.theory.specs.Walk.{Best}
 use Rattle.refusal.specs.declared.Refusal.{Refusal}
 use Rattle.refusal.specs.declared.Refusal.TheVariants.{GroupsOutside}
 use Rattle.refusal.specs.Refusal.{number_of}
 use Rattle.refusal.specs.RefusalLaws.{same_refusal, some_number}
-use Rattle.grid.specs.declared.FrequencyReply.{FrequencyReply}
-use Rattle.grid.specs.declared.FrequencyReply.TheVariants as frequency-reply
-use Rattle.request.specs.declared.Checked.{Checked}
-use Rattle.request.specs.declared.Checked.TheVariants as checked
-use Rattle.request.specs.declared.Written.{Written}
-use Rattle.request.specs.declared.Written.TheVariants.{Wrote}
 use Rattle.request.specs.View.{View}
+use Rattle.request.specs.Sharing.{problem_of}
 use Rattle.request.specs.Check.{check, then, must}
 use Rattle.request.proofs.SoundLaws.{check_sound}
 use Rattle.request.proofs.LimitsLaws.{sound_limits}
@@ -23,8 +20,6 @@ use Rattle.reading.specs.Reading.{FileReading, refused, accepted, read_file}
 use Rattle.request.proofs.CheckLaws.{by_check, first_sound}
 use Rattle.request.specs.RoundTrip.{Bytes}
 use Rattle.writing.specs.RoundTripLaws.{accepted_encodes}
-use Rattle.meeting.specs.declared.BoundReply.{BoundReply}
-use Rattle.meeting.specs.declared.BoundReply.TheVariants as bound-reply
 use Rattle.meeting.specs.Bound.{bound_of}
 use Rattle.meeting.specs.BoundLaws.{plan_above_bound}
 use Rattle.meeting.specs.Plan.{AllowedPlan, end_of_plan}
@@ -32,15 +27,9 @@ use Rattle.meeting.specs.Reply.{bound_reply}
 use Rattle.meeting.specs.ReplyLaws.{bound_answered}
 use Rattle.search.specs.declared.Outcome.{Outcome}
 use Rattle.search.specs.declared.Outcome.TheVariants.{Finished, NothingFits, Unfinished, UnfinishedEmpty}
-use Rattle.search.specs.declared.SearchReply.{SearchReply}
-use Rattle.search.specs.declared.SearchReply.TheVariants as search-reply
 use Rattle.search.specs.Reply as search
-use Rattle.groups.specs.declared.Grouping.{Grouping}
-use Rattle.groups.specs.declared.Grouping.TheVariants.{Grouped, NothingFound, Refused as Ungrouped}
-use Rattle.groups.specs.declared.GroupsReply.{GroupsReply}
+use Rattle.groups.specs.declared.Grouped.{Grouped}
 use Rattle.groups.specs.Reply as groups
-use Rattle.plan.specs.declared.CheckReply.{CheckReply}
-use Rattle.plan.specs.declared.CheckReply.TheVariants as check-reply
 use Rattle.plan.specs.CheckStarts.{starts_reply}
 use Rattle.planfile.specs.PlanReading as plan
 use Rattle.planfile.proofs.PlanReadingLaws.{plan_request_refused}
@@ -196,22 +185,21 @@ module _ (file : List ℕ) (why : Refusal) (read : read_file file ≡ refused wh
   check_starts_refused starts = ap (λ (r : FileReading). starts_entry r starts) read
 
 -- a plan of groups is told beside the bound
-outcome_beside : (need M : ℕ) (order : List ℕ) (o : Grouping) → (outcome_told need M order o).outcome ≡ 1 →
-    (outcome_told need M order o).bound ≡ need
-unfolding outcome_told grouped_refused
-outcome_beside need M order (Grouped e) h = refl
-outcome_beside need M order NothingFound h = absurd (omega (arith, h))
-outcome_beside need M order (Ungrouped why) h = absurd (omega (arith, h))
+outcome_beside : (need M : ℕ) (best : Option Grouped) → (outcome_told need M best).outcome ≡ 1 → (outcome_told need M best).bound ≡ need
+unfolding outcome_told
+outcome_beside need M (Some plan) h = refl
+outcome_beside need M None h = absurd (omega (arith, h))
 
-bound_beside : (need M : ℕ) (reply : GroupsReply) → (grouped_told (bound-reply.Bound need) M reply).outcome ≡ 1 →
-    (grouped_told (bound-reply.Bound need) M reply).bound ≡ need
-unfolding grouped_told
-bound_beside need M reply h = outcome_beside need M reply.order reply.outcome h
+bound_beside : (need M : ℕ) (reply : Result (Option Grouped) Refusal) → (grouped_told (Ok need) M reply).outcome ≡ 1 →
+    (grouped_told (Ok need) M reply).bound ≡ need
+unfolding grouped_told grouped_refused
+bound_beside need M (Ok best) h = outcome_beside need M best h
+bound_beside need M (Err why) h = absurd (omega (arith, h))
 
 -- a file of a request: what the library's call answers for that request, and the buffers as it leaves them
 module _ (file : List ℕ) (v : View) (bytes : Bytes file) (read : read_file file ≡ accepted v) where
   -- the request is sound, and keeps its limits
-  sound : check v ≡ checked.Sound
+  sound : check v ≡ Ok tt
   sound = (accepted_encodes file v bytes read).sound
 
   links_there : length v.links ≡ v.link_count
@@ -225,27 +213,27 @@ module _ (file : List ℕ) (v : View) (bytes : Bytes file) (read : read_file fil
       parts.counted.demands_counted (check_sound v parts.counted sound).at_most_200_demands
 
   -- so its bound is answered
-  bounded : bound_reply v ≡ bound-reply.Bound (bound_of v)
+  bounded : bound_reply v ≡ Ok (bound_of v)
   bounded = sym (bound_answered v (bound_of v) sound refl)
 
   -- with room in each buffer: the request with its bound, and the columns of its demands
   pub read_answers : (lent : DemandBuffers) → v.demand_count ≤ length lent.idents → v.demand_count ≤ length lent.widths →
       v.demand_count ≤ length lent.rates →
-      (request_entry (read_file file) (demand_rooms lent) ≡ request_told (bound-reply.Bound (bound_of v)) v) ×
+      (request_entry (read_file file) (demand_rooms lent) ≡ request_told (Ok (bound_of v)) v) ×
       (demands_read (read_file file) lent ≡ demands_over v.demands lent)
   unfolding request_entry request_after demands_read demand_rooms
   read_answers lent h k l =
       let roomy = rooms_with _ _ _ h (rooms_with _ _ _ k (rooms_with _ _ _ l (rooms_none v.demand_count))) in
       let told = demands_written v lent (demands_fit v (demand_rooms lent) sound ∙ roomy) in (
         ap (λ (r : FileReading). request_entry r (demand_rooms lent)) read
-            ∙ (ap (λ (a : Written). request_after a v) (sym told.0) ∙ ap (λ (b : BoundReply). request_told b v) bounded),
+            ∙ (ap (λ (a : Result ℕ Refusal). request_after a v) (sym told.0) ∙ ap (λ (b : Result ℕ Refusal). request_told b v) bounded),
         ap (λ (r : FileReading). demands_read r lent) read ∙ sym told.1,
       )
 
   -- with room in all three buffers: how many links, demands and links of routes there are, and the three columns
   pub read_routes_answers : (e h r : List ℕ) → 2 * v.link_count ≤ length e → v.demand_count ≤ length h →
       length (route_links v.demands) ≤ length r →
-      (routes_entry (read_file file) (length e) (length h) (length r) ≡ routes_told (Wrote (length (route_links v.demands))) v) ×
+      (routes_entry (read_file file) (length e) (length h) (length r) ≡ routes_told (Ok (length (route_links v.demands))) v) ×
       (ends_read (read_file file) e h r ≡ over (link_ends v.links) e) ×
       (hops_read (read_file file) e h r ≡ over (hop_counts v.demands) h) ×
       (routes_read (read_file file) e h r ≡ over (route_links v.demands) r)
@@ -253,11 +241,11 @@ module _ (file : List ℕ) (v : View) (bytes : Bytes file) (read : read_file fil
   read_routes_answers e h r a b c =
       let enough =
       routes_fit v (length e) (length h) (length r) v.link_count v.demand_count (length (route_links v.demands))
-      sound links_there demands_there refl checked.Sound
+      sound links_there demands_there refl (Ok tt)
       (sym (room_enough _ _ a)) (sym (room_enough _ _ b)) (sym (room_enough _ _ c)) in
       let told = routes_written v e h r enough in (
         ap (λ (f : FileReading). routes_entry f (length e) (length h) (length r)) read
-            ∙ ap (λ (x : Written). routes_told x v) (sym told.0),
+            ∙ ap (λ (x : Result ℕ Refusal). routes_told x v) (sym told.0),
         ap (λ (f : FileReading). ends_read f e h r) read ∙ sym told.1.0,
         ap (λ (f : FileReading). hops_read f e h r) read ∙ sym told.1.1.0,
         ap (λ (f : FileReading). routes_read f e h r) read ∙ sym told.1.1.1,
@@ -273,12 +261,12 @@ module _ (file : List ℕ) (v : View) (bytes : Bytes file) (read : read_file fil
   )
 
   pub groups_answer : (M : ℕ) (rooms starts blockers : List ℕ) →
-      (grouped_entry (read_file file) M rooms ≡ grouped_told (bound-reply.Bound (bound_of v)) M (groups.groups_reply v M rooms)) ×
+      (grouped_entry (read_file file) M rooms ≡ grouped_told (Ok (bound_of v)) M (groups.groups_reply v M rooms)) ×
       (starts_grouped (read_file file) M rooms starts ≡ groups.groups_starts v M rooms starts) ×
       (blockers_grouped (read_file file) M rooms blockers ≡ groups.groups_blockers v M rooms blockers)
   unfolding grouped_entry starts_grouped blockers_grouped
   groups_answer M rooms starts blockers = (
-    ap (λ (r : FileReading). grouped_entry r M rooms) read ∙ ap (λ (b : BoundReply). grouped_told b M (groups.groups_reply v M rooms)) bounded,
+    ap (λ (r : FileReading). grouped_entry r M rooms) read ∙ ap (λ (b : Result ℕ Refusal). grouped_told b M (groups.groups_reply v M rooms)) bounded,
     ap (λ (r : FileReading). starts_grouped r M rooms starts) read,
     ap (λ (r : FileReading). blockers_grouped r M rooms blockers) read,
   )
@@ -298,114 +286,96 @@ module _ (file : List ℕ) (v : View) (bytes : Bytes file) (read : read_file fil
 
   pub check_answers : (file' starts : List ℕ) →
       (verdict_entry (read_file file) file' (length starts)
-      ≡ check_told (bound-reply.Bound (bound_of v)) (plan.plan_reply v (plan.read_plan_file v file' (length starts)))) ×
+      ≡ check_told (Ok (bound_of v)) (plan.plan_reply v (plan.read_plan_file v file' (length starts)))) ×
       (starts_read (read_file file) file' starts ≡ plan.plan_starts (plan.read_plan_file v file' (length starts)) starts)
   unfolding verdict_entry starts_read
   check_answers file' starts = (
     ap (λ (r : FileReading). verdict_entry r file' (length starts)) read
-        ∙ ap (λ (b : BoundReply). check_told b (plan.plan_reply v (plan.read_plan_file v file' (length starts)))) bounded,
+        ∙ ap (λ (b : Result ℕ Refusal). check_told b (plan.plan_reply v (plan.read_plan_file v file' (length starts)))) bounded,
     ap (λ (r : FileReading). starts_read r file' starts) read,
   )
 
   pub check_starts_answers : (starts : List ℕ) →
-      starts_entry (read_file file) starts ≡ check_told (bound-reply.Bound (bound_of v)) (starts_reply v starts)
+      starts_entry (read_file file) starts ≡ check_told (Ok (bound_of v)) (starts_reply v starts)
   unfolding starts_entry
   check_starts_answers starts =
-      ap (λ (r : FileReading). starts_entry r starts) read ∙ ap (λ (b : BoundReply). check_told b (starts_reply v starts)) bounded
+      ap (λ (r : FileReading). starts_entry r starts) read ∙ ap (λ (b : Result ℕ Refusal). check_told b (starts_reply v starts)) bounded
 
 -- ---- nothing is lost
 
 -- two replies of the search that a C program is told alike are equal
-pub search_told_whole : (r r' : SearchReply) → search_told r ≡ search_told r' → r ≡ r'
+pub search_told_whole : (r r' : Result Answer Refusal) → search_told r ≡ search_told r' → r ≡ r'
 unfolding search_told answer_refused
-search_told_whole (search-reply.Answered a) (search-reply.Answered a') h =
-    ap search-reply.Answered
+search_told_whole (Ok a) (Ok a') h =
+    ap Ok
     (same_numbers a a'
     (same_outcome a.outcome a'.outcome (ap (λ (e : LightplanAnswer). e.outcome) h) (ap (λ (e : LightplanAnswer). e.end) h))
     (ap (λ (e : LightplanAnswer). e.bound) h) (ap (λ (e : LightplanAnswer). e.steps) h)
     (ap (λ (e : LightplanAnswer). e.reached) h) (ap (λ (e : LightplanAnswer). e.ruled) h))
-search_told_whole (search-reply.Answered a) (search-reply.Refused why) h =
+search_told_whole (Ok a) (Err why) h =
     absurd (omega (arith, ap (λ (e : LightplanAnswer). e.refusal) h, some_number why))
-search_told_whole (search-reply.Refused why) (search-reply.Answered a) h =
+search_told_whole (Err why) (Ok a) h =
     absurd (omega (arith, ap (λ (e : LightplanAnswer). e.refusal) h, some_number why))
-search_told_whole (search-reply.Refused why) (search-reply.Refused why') h =
-    ap search-reply.Refused
+search_told_whole (Err why) (Err why') h =
+    ap Err
     (same_refusal why why' (ap (λ (e : LightplanAnswer). e.refusal) h) (ap (λ (e : LightplanAnswer). e.place) h))
 
 -- what is answered of the best order is no refusal
-answered_no_refusal : (v : View) (best : Best) (why : Refusal) → (groups.best_reply v best).outcome ≢ Ungrouped why
-unfolding groups.best_reply
-answered_no_refusal v none_met why h = absurd (let z : ◌≡◌ {A = ℕ} 0 1 = cc in omega arith)
-answered_no_refusal v (met rows order) why h = absurd (let z : ◌≡◌ {A = ℕ} 0 1 = cc in omega arith)
+answered_no_refusal : (v : View) (best : Best) (why : Refusal) → groups.reply_after (Ok tt) (groups.best_reply (problem_of v) best) ≢ Err why
+unfolding groups.reply_after
+answered_no_refusal v best why h = absurd (let z : ◌≡◌ {A = ℕ} 0 1 = cc in omega arith)
 
--- a refusal of groups has no entry in its order
-refused_order : (v : View) (M : ℕ) (rooms : List ℕ) (why : Refusal) → (groups.groups_reply v M rooms).outcome ≡ Ungrouped why →
-    (groups.groups_reply v M rooms).order ≡ replicate 8 0
-unfolding groups.groups_reply groups.reply_after groups.order_told over
-refused_order v M rooms why h =
-    let tests = groups.check_groups v M rooms in
-    by_check tests
-    (λ (passed : tests ≡ checked.Sound). absurd (answered_no_refusal v (groups.grouped v M) why (rw passed at h)))
-    (λ (why' : Refusal) (failed : tests ≡ checked.Refused why'). rw failed)
+-- a refusal of groups is told with no entry in its order
+refused_order : (v : View) (need M : ℕ) (rooms : List ℕ) (why : Refusal) → groups.groups_reply v M rooms ≡ Err why →
+    (grouped_told (Ok need) M (groups.groups_reply v M rooms)).order ≡ replicate 8 0
+unfolding grouped_told grouped_refused
+refused_order v need M rooms why h = ap (λ (r : Result (Option Grouped) Refusal). (grouped_told (Ok need) M r).order) h
 
--- two outcomes of groups that are told alike are the same, with the same order, if a refusal has no entry in its order
-outcomes_told_whole : (o o' : Grouping) (order order' : List ℕ) (need M M' : ℕ) →
-    ((why : Refusal) → o ≡ Ungrouped why → order ≡ replicate 8 0) → ((why : Refusal) → o' ≡ Ungrouped why → order' ≡ replicate 8 0) →
-    outcome_told need M order o ≡ outcome_told need M' order' o' →
-    ◌≡◌ {A = GroupsReply} (record { outcome = o; order = order }) (record { outcome = o'; order = order' })
-unfolding outcome_told grouped_refused
-outcomes_told_whole (Grouped e) (Grouped e') order order' need M M' none none' h =
-    ap₂ (λ (e : ℕ) (order : List ℕ). record { outcome = Grouped e; order = order })
+-- two outcomes of groups that are told alike are the same, with the same order
+outcomes_told_whole : (best best' : Option Grouped) (need M M' : ℕ) → outcome_told need M best ≡ outcome_told need M' best' → best ≡ best'
+unfolding outcome_told
+outcomes_told_whole (Some plan) (Some plan') need M M' h =
+    ap₂ (λ (e : ℕ) (order : List ℕ). Some (record { end = e; order = order }))
     (ap (λ (g : LightplanGrouped). g.end) h) (ap (λ (g : LightplanGrouped). g.order) h)
-outcomes_told_whole (Grouped e) NothingFound order order' need M M' none none' h =
-    absurd (omega (arith, ap (λ (g : LightplanGrouped). g.outcome) h))
-outcomes_told_whole (Grouped e) (Ungrouped why) order order' need M M' none none' h =
-    absurd (omega (arith, ap (λ (g : LightplanGrouped). g.refusal) h, some_number why))
-outcomes_told_whole NothingFound (Grouped e) order order' need M M' none none' h =
-    absurd (omega (arith, ap (λ (g : LightplanGrouped). g.outcome) h))
-outcomes_told_whole NothingFound NothingFound order order' need M M' none none' h =
-    ap (λ (order : List ℕ). record { outcome = NothingFound; order = order }) (ap (λ (g : LightplanGrouped). g.order) h)
-outcomes_told_whole NothingFound (Ungrouped why) order order' need M M' none none' h =
-    absurd (omega (arith, ap (λ (g : LightplanGrouped). g.refusal) h, some_number why))
-outcomes_told_whole (Ungrouped why) (Grouped e) order order' need M M' none none' h =
-    absurd (omega (arith, ap (λ (g : LightplanGrouped). g.refusal) h, some_number why))
-outcomes_told_whole (Ungrouped why) NothingFound order order' need M M' none none' h =
-    absurd (omega (arith, ap (λ (g : LightplanGrouped). g.refusal) h, some_number why))
-outcomes_told_whole (Ungrouped why) (Ungrouped why') order order' need M M' none none' h =
-    ap₂ (λ (why : Refusal) (order : List ℕ). record { outcome = Ungrouped why; order = order })
-    (same_refusal why why' (ap (λ (g : LightplanGrouped). g.refusal) h) (ap (λ (g : LightplanGrouped). g.place) h))
-    (none why refl ∙ sym (none' why' refl))
+outcomes_told_whole (Some plan) None need M M' h = absurd (omega (arith, ap (λ (g : LightplanGrouped). g.outcome) h))
+outcomes_told_whole None (Some plan) need M M' h = absurd (omega (arith, ap (λ (g : LightplanGrouped). g.outcome) h))
+outcomes_told_whole None None need M M' h = refl
 
 -- and so are two replies of groups, for whatever requests
-pub grouped_told_whole : (v v' : View) (M M' : ℕ) (rooms rooms' : List ℕ) (need : ℕ) →
-    grouped_told (bound-reply.Bound need) M (groups.groups_reply v M rooms)
-    ≡ grouped_told (bound-reply.Bound need) M' (groups.groups_reply v' M' rooms') →
-    groups.groups_reply v M rooms ≡ groups.groups_reply v' M' rooms'
-unfolding grouped_told
-grouped_told_whole v v' M M' rooms rooms' need h =
-    outcomes_told_whole (groups.groups_reply v M rooms).outcome (groups.groups_reply v' M' rooms').outcome
-    (groups.groups_reply v M rooms).order (groups.groups_reply v' M' rooms').order
-    need M M' (refused_order v M rooms) (refused_order v' M' rooms') h
+pub grouped_told_whole : (r r' : Result (Option Grouped) Refusal) (M M' need : ℕ) →
+    grouped_told (Ok need) M r ≡ grouped_told (Ok need) M' r' → r ≡ r'
+unfolding grouped_told outcome_told grouped_refused
+grouped_told_whole (Ok best) (Ok best') M M' need h = ap Ok (outcomes_told_whole best best' need M M' h)
+grouped_told_whole (Ok (Some plan)) (Err why) M M' need h =
+    absurd (omega (arith, ap (λ (g : LightplanGrouped). g.refusal) h, some_number why))
+grouped_told_whole (Ok None) (Err why) M M' need h =
+    absurd (omega (arith, ap (λ (g : LightplanGrouped). g.refusal) h, some_number why))
+grouped_told_whole (Err why) (Ok (Some plan)) M M' need h =
+    absurd (omega (arith, ap (λ (g : LightplanGrouped). g.refusal) h, some_number why))
+grouped_told_whole (Err why) (Ok None) M M' need h =
+    absurd (omega (arith, ap (λ (g : LightplanGrouped). g.refusal) h, some_number why))
+grouped_told_whole (Err why) (Err why') M M' need h =
+    ap Err (same_refusal why why' (ap (λ (g : LightplanGrouped). g.refusal) h) (ap (λ (g : LightplanGrouped). g.place) h))
 
 -- and so are two replies of a check
-pub check_told_whole : (r r' : CheckReply) (need : ℕ) →
-    check_told (bound-reply.Bound need) r ≡ check_told (bound-reply.Bound need) r' → r ≡ r'
+pub check_told_whole : (r r' : Result ℕ Refusal) (need : ℕ) →
+    check_told (Ok need) r ≡ check_told (Ok need) r' → r ≡ r'
 unfolding check_told verdict_refused
-check_told_whole (check-reply.Accepted e) (check-reply.Accepted e') need h =
-    ap check-reply.Accepted (ap (λ (e : LightplanVerdict). e.end) h)
-check_told_whole (check-reply.Accepted e) (check-reply.Refused why) need h =
+check_told_whole (Ok e) (Ok e') need h =
+    ap Ok (ap (λ (e : LightplanVerdict). e.end) h)
+check_told_whole (Ok e) (Err why) need h =
     absurd (omega (arith, ap (λ (e : LightplanVerdict). e.refusal) h, some_number why))
-check_told_whole (check-reply.Refused why) (check-reply.Accepted e) need h =
+check_told_whole (Err why) (Ok e) need h =
     absurd (omega (arith, ap (λ (e : LightplanVerdict). e.refusal) h, some_number why))
-check_told_whole (check-reply.Refused why) (check-reply.Refused why') need h =
-    ap check-reply.Refused
+check_told_whole (Err why) (Err why') need h =
+    ap Err
     (same_refusal why why' (ap (λ (e : LightplanVerdict). e.refusal) h) (ap (λ (e : LightplanVerdict). e.place) h))
 
 -- what was refused of a request file that is accepted is the plan, or the buffer, and never the request: that is told as 1 alone
-pub plan_told_apart : (r : CheckReply) (need : ℕ) → (check_told (bound-reply.Bound need) r).which ≢ 1
+pub plan_told_apart : (r : Result ℕ Refusal) (need : ℕ) → (check_told (Ok need) r).which ≢ 1
 unfolding check_told verdict_refused which_of
-plan_told_apart (check-reply.Accepted e) need h = absurd (omega (arith, h))
-plan_told_apart (check-reply.Refused why) need h =
+plan_told_apart (Ok e) need h = absurd (omega (arith, h))
+plan_told_apart (Err why) need h =
     by_test (eqb (number_of why) 10)
     (λ (ten : eqb (number_of why) 10 ≡ true). let z : ◌≡◌ {A = ℕ} 3 1 = rw ten at h in absurd (omega (arith, z)))
     (λ (other : eqb (number_of why) 10 ≡ false). let z : ◌≡◌ {A = ℕ} 2 1 = rw other at h in absurd (omega (arith, z)))
@@ -419,59 +389,57 @@ some_outcome (Unfinished e) = omega arith
 some_outcome UnfinishedEmpty = omega arith
 
 -- so an answer is told with one of the four, and a refusal with none: a struct of zeros tells of no outcome
-pub answer_has_outcome : (r : SearchReply) → (search_told r).refusal ≡ 0 → 1 ≤ (search_told r).outcome
+pub answer_has_outcome : (r : Result Answer Refusal) → (search_told r).refusal ≡ 0 → 1 ≤ (search_told r).outcome
 unfolding search_told answer_refused
-answer_has_outcome (search-reply.Answered a) h = some_outcome a.outcome
-answer_has_outcome (search-reply.Refused why) h = absurd (omega (arith, h, some_number why))
+answer_has_outcome (Ok a) h = some_outcome a.outcome
+answer_has_outcome (Err why) h = absurd (omega (arith, h, some_number why))
 
-pub refusal_has_none : (r : SearchReply) → (search_told r).refusal ≢ 0 → (search_told r).outcome ≡ 0
+pub refusal_has_none : (r : Result Answer Refusal) → (search_told r).refusal ≢ 0 → (search_told r).outcome ≡ 0
 unfolding search_told answer_refused
-refusal_has_none (search-reply.Answered a) h = absurd (h refl)
-refusal_has_none (search-reply.Refused why) h = refl
+refusal_has_none (Ok a) h = absurd (h refl)
+refusal_has_none (Err why) h = refl
 
-some_grouping : (o : Grouping) (order : List ℕ) (need M : ℕ) → (outcome_told need M order o).refusal ≡ 0 →
-    1 ≤ (outcome_told need M order o).outcome
-unfolding outcome_told grouped_refused
-some_grouping (Grouped e) order need M h = omega arith
-some_grouping NothingFound order need M h = omega arith
-some_grouping (Ungrouped why) order need M h = absurd (omega (arith, h, some_number why))
+some_grouping : (best : Option Grouped) (need M : ℕ) → (outcome_told need M best).refusal ≡ 0 → 1 ≤ (outcome_told need M best).outcome
+unfolding outcome_told
+some_grouping (Some plan) need M h = omega arith
+some_grouping None need M h = omega arith
 
-no_grouping : (o : Grouping) (order : List ℕ) (need M : ℕ) → (outcome_told need M order o).refusal ≢ 0 →
-    (outcome_told need M order o).outcome ≡ 0
-unfolding outcome_told grouped_refused
-no_grouping (Grouped e) order need M h = absurd (h refl)
-no_grouping NothingFound order need M h = absurd (h refl)
-no_grouping (Ungrouped why) order need M h = refl
+no_grouping : (best : Option Grouped) (need M : ℕ) → (outcome_told need M best).refusal ≢ 0 → (outcome_told need M best).outcome ≡ 0
+unfolding outcome_told
+no_grouping (Some plan) need M h = absurd (h refl)
+no_grouping None need M h = absurd (h refl)
 
 -- alike of groups: an answer has an outcome, and a refusal none
-pub grouped_has_outcome : (r : GroupsReply) (need M : ℕ) → (grouped_told (bound-reply.Bound need) M r).refusal ≡ 0 →
-    1 ≤ (grouped_told (bound-reply.Bound need) M r).outcome
-unfolding grouped_told
-grouped_has_outcome r need M h = some_grouping r.outcome r.order need M h
+pub grouped_has_outcome : (r : Result (Option Grouped) Refusal) (need M : ℕ) → (grouped_told (Ok need) M r).refusal ≡ 0 →
+    1 ≤ (grouped_told (Ok need) M r).outcome
+unfolding grouped_told grouped_refused
+grouped_has_outcome (Ok best) need M h = some_grouping best need M h
+grouped_has_outcome (Err why) need M h = absurd (omega (arith, h, some_number why))
 
-pub ungrouped_has_none : (r : GroupsReply) (need M : ℕ) → (grouped_told (bound-reply.Bound need) M r).refusal ≢ 0 →
-    (grouped_told (bound-reply.Bound need) M r).outcome ≡ 0
-unfolding grouped_told
-ungrouped_has_none r need M h = no_grouping r.outcome r.order need M h
+pub ungrouped_has_none : (r : Result (Option Grouped) Refusal) (need M : ℕ) → (grouped_told (Ok need) M r).refusal ≢ 0 →
+    (grouped_told (Ok need) M r).outcome ≡ 0
+unfolding grouped_told grouped_refused
+ungrouped_has_none (Ok best) need M h = no_grouping best need M h
+ungrouped_has_none (Err why) need M h = refl
 
 -- and two replies of the grid
-pub frequency_told_whole : (r r' : FrequencyReply) → frequency_told r ≡ frequency_told r' → r ≡ r'
+pub frequency_told_whole : (r r' : Result Frequency Refusal) → frequency_told r ≡ frequency_told r' → r ≡ r'
 unfolding frequency_told
-frequency_told_whole (frequency-reply.Centred f) (frequency-reply.Centred f') h =
-    ap (λ (e : LightplanFrequency). frequency-reply.Centred (record { n = e.n; m = e.m; mhz = e.mhz })) h
-frequency_told_whole (frequency-reply.Centred f) (frequency-reply.Refused why) h =
+frequency_told_whole (Ok f) (Ok f') h =
+    ap (λ (e : LightplanFrequency). Ok (record { n = e.n; m = e.m; mhz = e.mhz })) h
+frequency_told_whole (Ok f) (Err why) h =
     absurd (omega (arith, ap (λ (e : LightplanFrequency). e.refusal) h, some_number why))
-frequency_told_whole (frequency-reply.Refused why) (frequency-reply.Centred f) h =
+frequency_told_whole (Err why) (Ok f) h =
     absurd (omega (arith, ap (λ (e : LightplanFrequency). e.refusal) h, some_number why))
-frequency_told_whole (frequency-reply.Refused why) (frequency-reply.Refused why') h =
-    ap frequency-reply.Refused
+frequency_told_whole (Err why) (Err why') h =
+    ap Err
     (same_refusal why why' (ap (λ (e : LightplanFrequency). e.refusal) h) (ap (λ (e : LightplanFrequency). e.place) h))
 
 -- ---- a refusal leaves every lent buffer as it was
 
 -- a plan that is refused leaves the starts as they were
 plan_refused_keeps : (v : View) (starts : List ℕ) (read : plan.PlanReading) →
-    (check_told (bound-reply.Bound (bound_of v)) (plan.plan_reply v read)).refusal ≢ 0 →
+    (check_told (Ok (bound_of v)) (plan.plan_reply v read)).refusal ≢ 0 →
     plan.plan_starts read starts ≡ starts
 unfolding check_told plan.plan_reply plan.plan_starts
 plan_refused_keeps v starts (plan.refused why) h = refl
@@ -484,12 +452,12 @@ read_refused_keeps (refused why) lent h = refl
 read_refused_keeps (accepted v) lent h =
     let tests = check_demand_columns v (demand_rooms lent) in
     by_check tests
-    (λ (passed : tests ≡ checked.Sound).
-    let bounded : bound_reply v ≡ bound-reply.Bound (bound_of v)
+    (λ (passed : tests ≡ Ok tt).
+    let bounded : bound_reply v ≡ Ok (bound_of v)
     = sym (bound_answered v (bound_of v) (demands_sound v (demand_rooms lent) passed) refl) in
-    absurd (h (ap (λ (c : Checked). (request_after (write_answer c v.demand_count) v).refusal) passed
-    ∙ ap (λ (b : BoundReply). (request_told b v).refusal) bounded)))
-    (λ (why : Refusal) (failed : tests ≡ checked.Refused why). sym (demands_refused_lem v lent why failed).1)
+    absurd (h (ap (λ (c : Result Unit Refusal). (request_after (write_answer c v.demand_count) v).refusal) passed
+    ∙ ap (λ (b : Result ℕ Refusal). (request_told b v).refusal) bounded)))
+    (λ (why : Refusal) (failed : tests ≡ Err why). sym (demands_refused_lem v lent why failed).1)
 
 pub read_routes_refused_keeps : (read : FileReading) (e h r : List ℕ) → (routes_entry read (length e) (length h) (length r)).refusal ≢ 0 →
     (ends_read read e h r ≡ e) × (hops_read read e h r ≡ h) × (routes_read read e h r ≡ r)
@@ -498,9 +466,9 @@ read_routes_refused_keeps (refused why) e h r n = (refl, refl, refl)
 read_routes_refused_keeps (accepted v) e h r n =
     let tests = check_route_columns v (length e) (length h) (length r) in
     by_check tests
-    (λ (passed : tests ≡ checked.Sound).
-    absurd (n (ap (λ (c : Checked). (routes_told (write_answer c (length (route_links v.demands))) v).refusal) passed)))
-    (λ (why : Refusal) (failed : tests ≡ checked.Refused why).
+    (λ (passed : tests ≡ Ok tt).
+    absurd (n (ap (λ (c : Result Unit Refusal). (routes_told (write_answer c (length (route_links v.demands))) v).refusal) passed)))
+    (λ (why : Refusal) (failed : tests ≡ Err why).
     let kept = routes_refused_lem v e h r why failed in (sym kept.1.0, sym kept.1.1.0, sym kept.1.1.1))
 
 pub search_refused_keeps : (read : FileReading) (limit : ℕ) (lent : search.Buffers) →
@@ -510,21 +478,21 @@ search_refused_keeps (refused why) limit lent h = refl
 search_refused_keeps (accepted v) limit lent h =
     let tests = search.check_search v (search.rooms_of lent) in
     by_check tests
-    (λ (passed : tests ≡ checked.Sound).
-    absurd (h (ap (λ (c : Checked). (search_told (search.reply_to c (search.searched v limit))).refusal) passed)))
-    (λ (why : Refusal) (failed : tests ≡ checked.Refused why). rw failed)
+    (λ (passed : tests ≡ Ok tt).
+    absurd (h (ap (λ (c : Result Unit Refusal). (search_told (search.reply_to c (search.searched v limit))).refusal) passed)))
+    (λ (why : Refusal) (failed : tests ≡ Err why). rw failed)
 
 -- what passes the tests of groups is sound
-groups_sound : (v : View) (M : ℕ) (rooms : List ℕ) → groups.check_groups v M rooms ≡ checked.Sound → check v ≡ checked.Sound
+groups_sound : (v : View) (M : ℕ) (rooms : List ℕ) → groups.check_groups v M rooms ≡ Ok tt → check v ≡ Ok tt
 unfolding groups.check_groups
 groups_sound v M rooms h =
     first_sound (check v) (then (check_rooms v.demand_count rooms) (must (groups.groupable v.demand_count M) (GroupsOutside M))) h
 
 -- a reply of groups that is no refusal is told as none
-told_none : (v : View) (best : Best) (need M : ℕ) → (grouped_told (bound-reply.Bound need) M (groups.best_reply v best)).refusal ≡ 0
-unfolding grouped_told outcome_told groups.best_reply
-told_none v none_met need M = refl
-told_none v (met rows order) need M = refl
+told_none : (best : Option Grouped) (need M : ℕ) → (grouped_told (Ok need) M (Ok best)).refusal ≡ 0
+unfolding grouped_told outcome_told
+told_none (Some plan) need M = refl
+told_none None need M = refl
 
 pub groups_refused_keep : (read : FileReading) (M : ℕ) (rooms starts blockers : List ℕ) → (grouped_entry read M rooms).refusal ≢ 0 →
     (starts_grouped read M rooms starts ≡ starts) × (blockers_grouped read M rooms blockers ≡ blockers)
@@ -534,12 +502,12 @@ groups_refused_keep (refused why) M rooms starts blockers h = (refl, refl)
 groups_refused_keep (accepted v) M rooms starts blockers h =
     let tests = groups.check_groups v M rooms in
     by_check tests
-    (λ (passed : tests ≡ checked.Sound).
-    let bounded : bound_reply v ≡ bound-reply.Bound (bound_of v) = sym (bound_answered v (bound_of v) (groups_sound v M rooms passed) refl) in
-    let told : GroupsReply = groups.best_reply v (groups.grouped v M) in
-    absurd (h (ap (λ (c : Checked). (grouped_told (bound_reply v) M (groups.reply_after c told)).refusal) passed
-    ∙ (ap (λ (b : BoundReply). (grouped_told b M told).refusal) bounded ∙ told_none v (groups.grouped v M) (bound_of v) M))))
-    (λ (why : Refusal) (failed : tests ≡ checked.Refused why). (rw failed, rw failed))
+    (λ (passed : tests ≡ Ok tt).
+    let bounded : bound_reply v ≡ Ok (bound_of v) = sym (bound_answered v (bound_of v) (groups_sound v M rooms passed) refl) in
+    let told : Option Grouped = groups.best_reply (problem_of v) (groups.grouped v M) in
+    absurd (h (ap (λ (c : Result Unit Refusal). (grouped_told (bound_reply v) M (groups.reply_after c told)).refusal) passed
+    ∙ (ap (λ (b : Result ℕ Refusal). (grouped_told b M (Ok told)).refusal) bounded ∙ told_none told (bound_of v) M))))
+    (λ (why : Refusal) (failed : tests ≡ Err why). (rw failed, rw failed))
 
 pub check_refused_keeps : (read : FileReading) (file starts : List ℕ) → (verdict_entry read file (length starts)).refusal ≢ 0 →
     starts_read read file starts ≡ starts
@@ -547,8 +515,8 @@ unfolding verdict_entry starts_read plan.plan_starts
 check_refused_keeps (refused why) file starts h = refl
 check_refused_keeps (accepted v) file starts h =
     by_check (check v)
-    (λ (passed : check v ≡ checked.Sound).
-    let bounded : bound-reply.Bound (bound_of v) ≡ bound_reply v = bound_answered v (bound_of v) passed refl in
+    (λ (passed : check v ≡ Ok tt).
+    let bounded : Ok (bound_of v) ≡ bound_reply v = bound_answered v (bound_of v) passed refl in
     plan_refused_keeps v starts (plan.read_plan_file v file (length starts)) (rw (← bounded) at h))
-    (λ (why : Refusal) (failed : check v ≡ checked.Refused why).
+    (λ (why : Refusal) (failed : check v ≡ Err why).
     ap (λ (read : plan.PlanReading). plan.plan_starts read starts) (plan_request_refused v file (length starts) why failed))

@@ -1,10 +1,10 @@
 -- What C is told of a plan and a certificate that are held against a request file.
-use Rattle.std.specs.Prelude.{ℕ, cond, List, eqb}
+use Rattle.std.specs.Prelude.{ℕ, cond, List, Result, Ok, Err, eqb}
 use Rattle.refusal.specs.declared.Refusal.{Refusal}
 use Rattle.refusal.specs.Refusal.{number_of, place_of}
 use Rattle.reading.specs.Reading.{FileReading, refused, accepted}
 use Rattle.certify.specs.declared.Certified.{Certified}
-use Rattle.certify.specs.declared.Certified.TheVariants.{Best, AtLeast, Refused}
+use Rattle.certify.specs.declared.Certified.TheVariants.{Best, AtLeast}
 use Rattle.certify.specs.Reply.{certify_reply}
 use Rattle.host.specs.declared.LightplanCertified.{LightplanCertified}
 
@@ -18,11 +18,11 @@ plan_or_certificate why = cond (eqb (number_of why) 30) 4 2
 
 -- a reply: 0 at place 0 and 0 for nothing refused, with 1 where the plan's end is the certificate's, and 2 where it is above that; or the
 -- refusal
-unfoldable pub certify_told : Certified → LightplanCertified
+unfoldable pub certify_told : Result Certified Refusal → LightplanCertified
 unfolding certified_refused plan_or_certificate
-certify_told (Best e) = record { refusal = 0; place = 0; which = 0; outcome = 1; end = e; low = e }
-certify_told (AtLeast low e) = record { refusal = 0; place = 0; which = 0; outcome = 2; end = e; low = low }
-certify_told (Refused why) = certified_refused (plan_or_certificate why) why
+certify_told (Ok (Best e)) = record { refusal = 0; place = 0; which = 0; outcome = 1; end = e; low = e }
+certify_told (Ok (AtLeast low e)) = record { refusal = 0; place = 0; which = 0; outcome = 2; end = e; low = low }
+certify_told (Err why) = certified_refused (plan_or_certificate why) why
 
 -- the answer for a file, starts, weights and a: the reader's refusal, with 1 for the request file, or the reply
 unfoldable pub certified_entry : FileReading → List ℕ → List ℕ → ℕ → LightplanCertified

@@ -1,24 +1,16 @@
 -- What the calls for C answer: structs of numbers, from how a request file reads; and what their lent buffers hold afterwards.
-use Rattle.std.specs.Prelude.{ℕ, cond, List, length, replicate, eqb, ℤ, pos}
+use Rattle.grid.specs.declared.Frequency.{Frequency}
+use Rattle.search.specs.declared.Answer.{Answer}
+use Rattle.std.specs.Prelude.{ℕ, cond, List, length, replicate, eqb, ℤ, pos, Option, Some, None, Result, Ok, Err}
 use Rattle.refusal.specs.declared.Refusal.{Refusal}
 use Rattle.refusal.specs.Refusal.{number_of, place_of}
-use Rattle.grid.specs.declared.FrequencyReply.{FrequencyReply}
-use Rattle.grid.specs.declared.FrequencyReply.TheVariants as frequency-reply
 use Rattle.grid.specs.Grid.{frequency_reply}
 use Rattle.reading.specs.Reading.{FileReading, refused, accepted}
-use Rattle.meeting.specs.declared.BoundReply.{BoundReply}
-use Rattle.meeting.specs.declared.BoundReply.TheVariants as bound-reply
 use Rattle.meeting.specs.Reply.{bound_reply}
-use Rattle.search.specs.declared.SearchReply.{SearchReply}
-use Rattle.search.specs.declared.SearchReply.TheVariants as search-reply
 use Rattle.search.specs.Reply as search
 use Rattle.search.specs.Reply.{outcome_number, outcome_end}
-use Rattle.groups.specs.declared.Grouping.{Grouping}
-use Rattle.groups.specs.declared.Grouping.TheVariants.{Grouped, NothingFound, Refused}
-use Rattle.groups.specs.declared.GroupsReply.{GroupsReply}
+use Rattle.groups.specs.declared.Grouped.{Grouped}
 use Rattle.groups.specs.Reply.{groups_reply, groups_starts, groups_blockers}
-use Rattle.plan.specs.declared.CheckReply.{CheckReply}
-use Rattle.plan.specs.declared.CheckReply.TheVariants as check-reply
 use Rattle.plan.specs.CheckStarts.{starts_reply}
 use Rattle.planfile.specs.PlanReading as plan
 use Rattle.host.specs.declared.LightplanAnswer.{LightplanAnswer}
@@ -39,9 +31,9 @@ answer_refused why =
     record { refusal = number_of why; place = place_of why; outcome = 0; end = 0; bound = 0; steps = 0; reached = 0; ruled = 0 }
 
 -- a reply of the search: 0 at place 0 and the answer's numbers, or the refusal
-unfoldable pub search_told : SearchReply → LightplanAnswer
+unfoldable pub search_told : Result Answer Refusal → LightplanAnswer
 unfolding outcome_number outcome_end answer_refused
-search_told (search-reply.Answered a) =
+search_told (Ok a) =
     record {
       refusal = 0;
       place = 0;
@@ -52,7 +44,7 @@ search_told (search-reply.Answered a) =
       reached = a.reached;
       ruled = a.ruled;
     }
-search_told (search-reply.Refused why) = answer_refused why
+search_told (Err why) = answer_refused why
 
 -- the answer for a file, a limit, and buffers of these rooms: the reader's refusal, or the search's reply
 unfoldable pub answer_entry : FileReading → ℕ → List ℕ → LightplanAnswer
@@ -72,19 +64,19 @@ unfoldable pub grouped_refused : Refusal → LightplanGrouped
 grouped_refused why =
     record { refusal = number_of why; place = place_of why; outcome = 0; end = 0; bound = 0; groups = 0; order = replicate 8 0 }
 
--- an outcome of M groups with its order, beside the bound: 0 at place 0 and 1, the plan's end, and M for the entries of the order; or 2
--- where nothing was found; or the refusal
-unfoldable pub outcome_told : ℕ → ℕ → List ℕ → Grouping → LightplanGrouped
-unfolding grouped_refused
-outcome_told need M order (Grouped e) = record { refusal = 0; place = 0; outcome = 1; end = e; bound = need; groups = M; order = order }
-outcome_told need M order NothingFound = record { refusal = 0; place = 0; outcome = 2; end = 0; bound = need; groups = 0; order = order }
-outcome_told need M order (Refused why) = grouped_refused why
+-- the best of M groups' orders, beside the bound: 0 at place 0 and 1, the plan's end, and M for the entries of the order; or 2 where nothing
+-- was found
+unfoldable pub outcome_told : ℕ → ℕ → Option Grouped → LightplanGrouped
+outcome_told need M (Some plan) =
+    record { refusal = 0; place = 0; outcome = 1; end = plan.end; bound = need; groups = M; order = plan.order }
+outcome_told need M None = record { refusal = 0; place = 0; outcome = 2; end = 0; bound = need; groups = 0; order = replicate 8 0 }
 
 -- the reply for the bound and that of M groups
-unfoldable pub grouped_told : BoundReply → ℕ → GroupsReply → LightplanGrouped
+unfoldable pub grouped_told : Result ℕ Refusal → ℕ → Result (Option Grouped) Refusal → LightplanGrouped
 unfolding grouped_refused outcome_told
-grouped_told (bound-reply.Bound need) M reply = outcome_told need M reply.order reply.outcome
-grouped_told (bound-reply.Refused why) M reply = grouped_refused why
+grouped_told (Ok need) M (Ok best) = outcome_told need M best
+grouped_told (Ok need) M (Err why) = grouped_refused why
+grouped_told (Err why) M reply = grouped_refused why
 
 -- the answer for a file, a number of groups, and buffers of these rooms: the reader's refusal, or the reply of the groups
 unfoldable pub grouped_entry : FileReading → ℕ → List ℕ → LightplanGrouped
@@ -114,11 +106,11 @@ which_of why = cond (eqb (number_of why) 10) 3 2
 
 -- the reply for the bound and that of a check: 0 at place 0, 0 for nothing refused, the plan's end and the bound; or the refusal, with
 -- 1 for a request that has no bound
-unfoldable pub check_told : BoundReply → CheckReply → LightplanVerdict
+unfoldable pub check_told : Result ℕ Refusal → Result ℕ Refusal → LightplanVerdict
 unfolding verdict_refused which_of
-check_told (bound-reply.Refused why) reply = verdict_refused 1 why
-check_told (bound-reply.Bound need) (check-reply.Accepted e) = record { refusal = 0; place = 0; which = 0; end = e; bound = need }
-check_told (bound-reply.Bound need) (check-reply.Refused why) = verdict_refused (which_of why) why
+check_told (Err why) reply = verdict_refused 1 why
+check_told (Ok need) (Ok e) = record { refusal = 0; place = 0; which = 0; end = e; bound = need }
+check_told (Ok need) (Err why) = verdict_refused (which_of why) why
 
 -- the answer for a file, a plan file, and a buffer of this length: the reader's refusal, or the plan reader's reply
 unfoldable pub verdict_entry : FileReading → List ℕ → ℕ → LightplanVerdict
@@ -140,9 +132,9 @@ starts_entry (accepted v) starts = check_told (bound_reply v) (starts_reply v st
 -- ---- a block's frequency
 
 -- a reply of the grid: 0 at place 0 and the block's numbers, or the refusal's number and place and all else 0
-unfoldable pub frequency_told : FrequencyReply → LightplanFrequency
-frequency_told (frequency-reply.Centred f) = record { refusal = 0; place = 0; n = f.n; m = f.m; mhz = f.mhz }
-frequency_told (frequency-reply.Refused why) = record { refusal = number_of why; place = place_of why; n = pos 0; m = 0; mhz = pos 0 }
+unfoldable pub frequency_told : Result Frequency Refusal → LightplanFrequency
+frequency_told (Ok f) = record { refusal = 0; place = 0; n = f.n; m = f.m; mhz = f.mhz }
+frequency_told (Err why) = record { refusal = number_of why; place = place_of why; n = pos 0; m = 0; mhz = pos 0 }
 
 -- the answer for a band of three numbers, a start and a width
 unfoldable pub frequency_entry : ℤ → ℕ → ℕ → ℕ → ℕ → LightplanFrequency

@@ -7,7 +7,6 @@ use crate::LightplanCertified;
 use certify::{Certified, certify};
 use reading::read_request;
 use refusal::Refusal;
-use request::Checked;
 
 // Holds starts and weights, both by listing position, against the request in a file: whether they prove the plan to be the best there is.
 // The reader's refusals at their offsets come first, then 16, 17, 18 of the plan, and 30 of the certificate.
@@ -20,22 +19,22 @@ pub extern "C" fn lightplan_certify(
 ) -> LightplanCertified
     ensures { result ≡ certified_entry (read_file file.now) starts.now weights.now a }
 {
-    let reading = read_request(file);
-    let verdict = reading.verdict;
-    let request = reading.request;
-    if let Checked::Refused(why) = verdict {
-        return certified_refused(1, why);
-    }
+    // Kept as it is: an exported function answers a struct of numbers and no Result, so there is no `?` in it.
+    let request = match read_request(file) {
+        Ok(request) => request,
+        Err(why) => return certified_refused(1, why),
+    };
     let reply = certify(request, starts, weights, a);
     certified_told(reply)
 }
 
 // The two ends, and whether they are one; or the refusal, and of what: of the plan, or of the certificate, which alone is refused by 30.
-fn certified_told(reply: Certified) -> LightplanCertified
+// Kept as it is: bare numbers for what is refused and for the outcome, since a C program reads them and an exported function answers no enum.
+fn certified_told(reply: Result<Certified, Refusal>) -> LightplanCertified
     ensures { result ≡ certify_told reply }
 {
     match reply {
-        Certified::Best(end) => LightplanCertified {
+        Ok(Certified::Best(end)) => LightplanCertified {
             refusal: 0,
             place: 0,
             which: 0,
@@ -43,7 +42,7 @@ fn certified_told(reply: Certified) -> LightplanCertified
             end,
             low: end as u32,
         },
-        Certified::AtLeast(low, end) => LightplanCertified {
+        Ok(Certified::AtLeast(low, end)) => LightplanCertified {
             refusal: 0,
             place: 0,
             which: 0,
@@ -51,7 +50,8 @@ fn certified_told(reply: Certified) -> LightplanCertified
             end,
             low,
         },
-        Certified::Refused(why) => {
+        Err(why) => {
+            // Kept as it is: `plan_or_certificate`, of which the promise speaks, tells the two apart by the number, as a C program does.
             if why.number() == 30 {
                 return certified_refused(4, why);
             }
@@ -60,6 +60,8 @@ fn certified_told(reply: Certified) -> LightplanCertified
     }
 }
 
+// A refusal is told by its number and its place, and by what is refused.
+// Kept as it is: `From` takes a refusal alone, and this one is told what is refused besides.
 fn certified_refused(which: u8, why: Refusal) -> LightplanCertified
     ensures { result ≡ certified_refused which why }
 {
@@ -67,8 +69,6 @@ fn certified_refused(which: u8, why: Refusal) -> LightplanCertified
         refusal: why.number(),
         place: why.place(),
         which,
-        outcome: 0,
-        end: 0,
-        low: 0,
+        ..LightplanCertified::default()
     }
 }

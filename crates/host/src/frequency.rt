@@ -3,7 +3,8 @@ ghost use Rattle.std.specs.Prelude.{◌≡◌};
 ghost use Rattle.host.specs.Host.{frequency_told, frequency_entry};
 
 use crate::LightplanFrequency;
-use grid::{Band, BandReply, FrequencyReply, to_frequency};
+use grid::{Band, Frequency, to_frequency};
+use refusal::Refusal;
 
 // Where the block of this start and width stands, in the band of these three numbers: 4, 9, 17, each at place 0.
 #[unsafe(no_mangle)]
@@ -16,31 +17,29 @@ pub extern "C" fn lightplan_frequency(
 ) -> LightplanFrequency
     ensures { result ≡ frequency_entry n0 slots guard start width }
 {
-    let made = Band::new(n0, slots, guard);
-    match made {
-        BandReply::Allowed(band) => frequency_told(to_frequency(band, start, width)),
-        BandReply::Refused(why) => frequency_told(FrequencyReply::Refused(why)),
+    match Band::new(n0, slots, guard) {
+        Ok(band) => frequency_told(to_frequency(band, start, width)),
+        Err(why) => frequency_told(Err(why)),
     }
 }
 
 // The numbers of a frequency, or the refusal.
-fn frequency_told(reply: FrequencyReply) -> LightplanFrequency
+fn frequency_told(reply: Result<Frequency, Refusal>) -> LightplanFrequency
     ensures { result ≡ frequency_told reply }
 {
     match reply {
-        FrequencyReply::Centred(centre) => LightplanFrequency {
+        Ok(centre) => LightplanFrequency {
             refusal: 0,
             place: 0,
             n: centre.n,
             m: centre.m,
             mhz: centre.mhz,
         },
-        FrequencyReply::Refused(why) => LightplanFrequency {
+        // Kept as it is: a refusal becomes a frequency in this one place, and a `From` for it alone would be longer.
+        Err(why) => LightplanFrequency {
             refusal: why.number(),
             place: why.place(),
-            n: 0,
-            m: 0,
-            mhz: 0,
+            ..LightplanFrequency::default()
         },
     }
 }

@@ -4,11 +4,10 @@ ghost use Rattle.reading.specs.Reading.{read_file};
 ghost use Rattle.host.specs.Host.{grouped_refused, grouped_told, grouped_entry, starts_grouped, blockers_grouped};
 
 use crate::LightplanGrouped;
-use groups::{Grouping, GroupsReply, groups};
-use meeting::{BoundReply, bound};
+use groups::{Grouped, groups};
+use meeting::bound;
 use reading::read_request;
 use refusal::Refusal;
-use request::Checked;
 
 // Cuts the demands of the request in a file into so many groups, and takes the best that first fit makes of an order of these. With a
 // plan `starts` gets its start of each demand by listing position, and `blockers` who keeps each demand from starting lower, 65535 for
@@ -26,60 +25,65 @@ pub extern "C" fn lightplan_groups(
     ensures blockers { blockers.new ≡
         blockers_grouped (read_file file.now) m (length starts.old ∷ length blockers.old ∷ []) blockers.old }
 {
-    let reading = read_request(file);
-    let verdict = reading.verdict;
-    let request = reading.request;
-    if let Checked::Refused(why) = verdict {
-        return grouped_refused(why);
-    }
+    // Kept as it is: an exported function answers a struct of numbers and no Result, so there is no `?` in it.
+    let request = match read_request(file) {
+        Ok(request) => request,
+        Err(why) => return LightplanGrouped::from(why),
+    };
     let need = bound(request);
     let reply = groups(request, m, starts, blockers);
     grouped_told(need, m, reply)
 }
 
-fn grouped_refused(why: Refusal) -> LightplanGrouped
-    ensures { result ≡ grouped_refused why }
-{
-    LightplanGrouped {
-        refusal: why.number(),
-        place: why.place(),
-        outcome: 0,
-        end: 0,
-        bound: 0,
-        groups: 0,
-        order: [0u16; 8],
+// A refusal is told by its number and its place.
+impl From<Refusal> for LightplanGrouped {
+    ghost from_gives = { λ why told. told ≡ grouped_refused why };
+
+    fn from(why: Refusal) -> LightplanGrouped {
+        LightplanGrouped {
+            refusal: why.number(),
+            place: why.place(),
+            order: [0; 8],
+            ..LightplanGrouped::default()
+        }
     }
 }
 
 // The numbers of a reply beside the bound, or the refusal. Of the order as many entries are told as there are groups; without a plan
 // there are none.
-fn grouped_told(need: BoundReply, m: usize, reply: GroupsReply) -> LightplanGrouped
+// Kept as it is: a bare outcome, 1 or 2, since a C program reads it and an exported function answers no enum.
+fn grouped_told(
+    need: Result<u32, Refusal>,
+    m: usize,
+    reply: Result<Option<Grouped>, Refusal>,
+) -> LightplanGrouped
     ensures { result ≡ grouped_told need m reply }
 {
-    let outcome = reply.outcome;
-    let order = reply.order;
     match need {
-        BoundReply::Bound(least) => match outcome {
-            Grouping::Grouped(end) => LightplanGrouped {
-                refusal: 0,
-                place: 0,
-                outcome: 1,
-                end,
-                bound: least,
-                groups: m,
-                order,
-            },
-            Grouping::NothingFound => LightplanGrouped {
+        Ok(least) => match reply {
+            Ok(Some(plan)) => {
+                let order = plan.order;
+                LightplanGrouped {
+                    refusal: 0,
+                    place: 0,
+                    outcome: 1,
+                    end: plan.end,
+                    bound: least,
+                    groups: m,
+                    order,
+                }
+            }
+            Ok(None) => LightplanGrouped {
                 refusal: 0,
                 place: 0,
                 outcome: 2,
                 end: 0,
                 bound: least,
                 groups: 0,
-                order,
+                order: [0; 8],
             },
-            Grouping::Refused(why) => grouped_refused(why),
+            Err(why) => LightplanGrouped::from(why),
         },
-        BoundReply::Refused(why) => grouped_refused(why),
+        Err(why) => LightplanGrouped::from(why),
     }
 }

@@ -23,7 +23,7 @@ pub use searching::lightplan_search;
 // What a search answers. Outcome 1: finished, no plan ends lower; 2: nothing fits; 3: unfinished, with the best plan met; 4:
 // unfinished, no plan met. A refusal has the outcome 0. Without a plan the end is 0.
 #[repr(C)]
-#[derive(Drop)]
+#[derive(Default, Drop)]
 pub struct LightplanAnswer {
     pub refusal: u8,
     pub place: usize,
@@ -38,7 +38,7 @@ pub struct LightplanAnswer {
 // What groups answer. Outcome 1: a plan, the best of all orders of the groups; 2: none of them gives a plan. A refusal has the outcome 0.
 // The order has as many entries as there are groups; all behind them are 0. Without a plan the end is 0, and the order has no entry.
 #[repr(C)]
-#[derive(Drop)]
+#[derive(Default, Drop)]
 pub struct LightplanGrouped {
     pub refusal: u8,
     pub place: usize,
@@ -52,7 +52,7 @@ pub struct LightplanGrouped {
 // What the check of a plan answers: the plan's end, and the bound that no plan ends below. Which 0: accepted; 1: the request file is
 // refused; 2: the plan; 3: the buffer for its starts.
 #[repr(C)]
-#[derive(Drop)]
+#[derive(Default, Drop)]
 pub struct LightplanVerdict {
     pub refusal: u8,
     pub place: usize,
@@ -65,7 +65,7 @@ pub struct LightplanVerdict {
 // ends above that. Then `end` is the plan's end and `low` the certificate's, and which is 0. A refusal has the outcome 0, and which 1: the
 // request file is refused; 2: the plan; 4: the certificate.
 #[repr(C)]
-#[derive(Drop)]
+#[derive(Default, Drop)]
 pub struct LightplanCertified {
     pub refusal: u8,
     pub place: usize,
@@ -77,7 +77,7 @@ pub struct LightplanCertified {
 
 // Where a block stands on the grid: its central number, its width number and its central frequency.
 #[repr(C)]
-#[derive(Drop)]
+#[derive(Default, Drop)]
 pub struct LightplanFrequency {
     pub refusal: u8,
     pub place: usize,

@@ -8,6 +8,7 @@ use told::{LightplanRequest, LightplanRoutes, request_told, routes_told};
 
 // Reads a request file. `idents`, `widths` and `rates` get the ident, the width and the rate of each demand by listing position, a rate of
 // 0 where it asks for a width. The reader's refusals at their offsets come first, then 10 for each buffer.
+// Kept as it is: an archive has the exported functions of its own crate alone, so this one says again what `request_told` says.
 #[unsafe(no_mangle)]
 pub extern "C" fn lightplan_read(
     file: &[u8],
@@ -26,6 +27,7 @@ pub extern "C" fn lightplan_read(
 // Reads the links and the routes of a request file. `ends` gets the two nodes of each link by its number, `hops` how many links each
 // demand's route has by listing position, and `routes` the links of all routes, demand by demand. The reader's refusals at their offsets
 // come first, then 10 for each buffer.
+// Kept as it is: for the same reason it says again what `routes_told` says.
 #[unsafe(no_mangle)]
 pub extern "C" fn lightplan_read_routes(
     file: &[u8],

@@ -7,8 +7,7 @@ ghost use Rattle.host.specs.Host.{answer_refused, search_told, answer_entry, buf
 use crate::LightplanAnswer;
 use reading::read_request;
 use refusal::Refusal;
-use request::Checked;
-use search::{Outcome, SearchReply, search};
+use search::{Answer, Outcome, search};
 
 // Searches the request in a file with at most `limit` steps. With a plan `starts` gets its start of each demand by listing
 // position, `order` the order that gave it, and `blockers` by listing position who keeps each demand from starting lower, 65535 for
@@ -26,54 +25,50 @@ pub extern "C" fn lightplan_search(
     ensures order { order.new ≡ (buffers_searched (read_file file.now) limit (buffers_of starts.old order.old blockers.old)).order }
     ensures blockers { blockers.new ≡ (buffers_searched (read_file file.now) limit (buffers_of starts.old order.old blockers.old)).blockers }
 {
-    let reading = read_request(file);
-    let verdict = reading.verdict;
-    let request = reading.request;
-    if let Checked::Refused(why) = verdict {
-        return answer_refused(why);
-    }
+    // Kept as it is: an exported function answers a struct of numbers and no Result, so there is no `?` in it.
+    let request = match read_request(file) {
+        Ok(request) => request,
+        Err(why) => return LightplanAnswer::from(why),
+    };
     let reply = search(request, limit, starts, order, blockers);
     search_told(reply)
 }
 
-fn answer_refused(why: Refusal) -> LightplanAnswer
-    ensures { result ≡ answer_refused why }
-{
-    LightplanAnswer {
-        refusal: why.number(),
-        place: why.place(),
-        outcome: 0,
-        end: 0,
-        bound: 0,
-        steps: 0,
-        reached: 0,
-        ruled: 0,
+// A refusal is told by its number and its place.
+impl From<Refusal> for LightplanAnswer {
+    ghost from_gives = { λ why told. told ≡ answer_refused why };
+
+    fn from(why: Refusal) -> LightplanAnswer {
+        LightplanAnswer {
+            refusal: why.number(),
+            place: why.place(),
+            ..LightplanAnswer::default()
+        }
     }
 }
 
 // The numbers of an answer, or the refusal.
-fn search_told(reply: SearchReply) -> LightplanAnswer
+fn search_told(reply: Result<Answer, Refusal>) -> LightplanAnswer
     ensures { result ≡ search_told reply }
 {
     match reply {
-        SearchReply::Answered(answer) => {
-            let outcome = answer.outcome;
-            LightplanAnswer {
-                refusal: 0,
-                place: 0,
-                outcome: outcome_number(outcome),
-                end: outcome_end(outcome),
-                bound: answer.bound,
-                steps: answer.steps,
-                reached: answer.reached,
-                ruled: answer.ruled,
-            }
-        }
-        SearchReply::Refused(why) => answer_refused(why),
+        Ok(answer) => LightplanAnswer {
+            refusal: 0,
+            place: 0,
+            outcome: outcome_number(answer.outcome),
+            end: outcome_end(answer.outcome),
+            bound: answer.bound,
+            steps: answer.steps,
+            reached: answer.reached,
+            ruled: answer.ruled,
+        },
+        Err(why) => LightplanAnswer::from(why),
     }
 }
 
 // Which of the four outcomes it is: 1 to 4.
+// Kept as it is: a bare number, since a C program reads it and an exported function answers no enum.
+#[tactic(auto, unfolding(search::specs::Reply::outcome_number))]
 fn outcome_number(outcome: Outcome) -> u8
     ensures { result ≡ outcome_number outcome }
 {
@@ -86,13 +81,12 @@ fn outcome_number(outcome: Outcome) -> u8
 }
 
 // The end of the plan, 0 without one.
+#[tactic(auto, unfolding(search::specs::Reply::outcome_end))]
 fn outcome_end(outcome: Outcome) -> u16
     ensures { result ≡ outcome_end outcome }
 {
     match outcome {
-        Outcome::Finished(end) => end,
-        Outcome::NothingFits => 0,
-        Outcome::Unfinished(end) => end,
-        Outcome::UnfinishedEmpty => 0,
+        Outcome::Finished(end) | Outcome::Unfinished(end) => end,
+        Outcome::NothingFits | Outcome::UnfinishedEmpty => 0,
     }
 }

@@ -1,40 +1,52 @@
 -- Buffers that are written at their front.
-use Rattle.std.specs.Prelude.{ℕ, suc, ◌+◌, ◌≤◌, ◌<◌, ◌≡◌, refl, leb, length, take, drop, set, get_or}
+use Rattle.std.specs.Prelude.{ℕ, suc, ◌+◌, ◌≤◌, ◌<◌, ◌≡◌, refl, cond, min, leb, ltb, length, take, drop, set, get_or, Result, Ok, Err}
 use mathlib.Core.List.Memᴰ
-use mathlib.Core.List.{List, [], ◌∷◌, ◌++◌, Memᴰ}
-use Rattle.std.proofs.Common.{⊎_elim, sym, ◌∙◌, arith, add-one, leb-true, le-leb, drop_of_length-le, drop-cons, take-suc, take_all, take_at, drop_at, length-take-le}
+use Rattle.theory.proofs.TestLaws.{by_test}
+use mathlib.Core.List.{List, [], ◌∷◌, ◌++◌, Memᴰ, append_assoc}
+use Rattle.std.proofs.Common.{⊎_elim, sym, ◌∙◌, arith, add-one, leb-true, le-leb, ltb-true, ltb-false, length-take, drop_of_length-le, drop-cons, take-suc, take_all, take_at, drop_at, length-take-le}
 use Rattle.std.proofs.Math.Path.{ap}
 use Rattle.std.proofs.lemmas.Bool.{lt-leb}
-use Rattle.std.proofs.lemmas.List.Edits.{sets, sets-eq}
+use Rattle.std.proofs.lemmas.List.Edits.{sets, sets-eq, paste_all}
+use Rattle.std.proofs.lemmas.Slice.{put_mid-paste}
+use borrow.Rule.Slice.PartMut.{put_mid}
 use Rattle.std.proofs.lemmas.List.{set_at}
 use Rattle.std.proofs.Math.Seq.{append_snoc}
 use Rattle.refusal.specs.declared.Refusal.{Refusal}
 use Rattle.refusal.specs.declared.Refusal.TheVariants.{BufferShort}
-use Rattle.request.specs.declared.Checked.{Checked}
-use Rattle.request.specs.declared.Checked.TheVariants.{Sound, Refused}
-use Rattle.request.specs.declared.Written.TheVariants.{Wrote, Refused as Unwritten}
 use Rattle.request.specs.Check.{then, must}
 use Rattle.request.proofs.CheckLaws.{then_sound, then_refused, first_sound, next_sound, test_held}
+use Rattle.std.proofs.lemmas.List.{take_min}
+use Rattle.std.specs.List.{list_any}
 use Rattle.lent.specs.Lent.{check_room, check_rooms, over, write_answer, write_reply}
 
 -- enough room
-pub room_enough : (need room : ℕ) → need ≤ room → Sound ≡ check_room need room
+pub room_enough : (need room : ℕ) → need ≤ room → Ok tt ≡ check_room need room
 unfolding check_room must
 room_enough need room h = rw (le-leb need room h)
 
 -- 10: too little room
-pub room_short : (need room : ℕ) → room < need → Refused (BufferShort need) ≡ check_room need room
+pub room_short : (need room : ℕ) → room < need → Err (BufferShort need) ≡ check_room need room
 unfolding check_room must
 room_short need room h = rw (lt-leb need room h)
 
 -- what the test for room passes has room
-pub room_held : (need room : ℕ) → check_room need room ≡ Sound → need ≤ room
+pub room_held : (need room : ℕ) → check_room need room ≡ Ok tt → need ≤ room
 unfolding check_room
 room_held need room h = leb-true need room (test_held (leb need room) (BufferShort need) h)
 
+-- several buffers are refused where one of them has less room
+pub rooms_any : (need : ℕ) (rooms : List ℕ) →
+    check_rooms need rooms ≡ cond (list_any (λ (room : ℕ). ltb room need) rooms) (Err (BufferShort need)) (Ok tt)
+unfolding check_rooms check_room then must
+rooms_any need [] = refl
+rooms_any need (room ∷ rooms) =
+    by_test (ltb room need)
+    (λ t. rw (t, lt-leb need room (ltb-true room need t)))
+    (λ t. rw (t, le-leb need room (ltb-false room need t)) (rooms_any need rooms))
+
 -- no buffer is left to test
 pub rooms_done : (need : ℕ) (rooms : List ℕ) (k : ℕ) → length rooms ≤ k → check_rooms need rooms ≡ check_rooms need (drop k rooms) →
-    Sound ≡ check_rooms need rooms
+    Ok tt ≡ check_rooms need rooms
 unfolding check_rooms
 rooms_done need rooms k h e = sym (e ∙ ap (check_rooms need) (drop_of_length-le rooms {i = k} h))
 
@@ -53,22 +65,22 @@ module _ (need : ℕ) (rooms : List ℕ) (k : ℕ) (there : k < length rooms) (p
       rooms_next ∙ then_sound (check_room need (get_or rooms k 0)) (check_rooms need (drop (k + 1) rooms)) (sym (room_enough need (get_or rooms k 0) h))
 
   -- the first that is too short is the refusal
-  pub rooms_short : get_or rooms k 0 < need → Refused (BufferShort need) ≡ check_rooms need rooms
+  pub rooms_short : get_or rooms k 0 < need → Err (BufferShort need) ≡ check_rooms need rooms
   rooms_short h =
       sym (rooms_next ∙ then_refused (check_room need (get_or rooms k 0)) (check_rooms need (drop (k + 1) rooms)) (BufferShort need) (sym (room_short need (get_or rooms k 0) h)))
 
 -- one buffer more with room
-pub rooms_with : (need room : ℕ) (rooms : List ℕ) → need ≤ room → check_rooms need rooms ≡ Sound → check_rooms need (room ∷ rooms) ≡ Sound
+pub rooms_with : (need room : ℕ) (rooms : List ℕ) → need ≤ room → check_rooms need rooms ≡ Ok tt → check_rooms need (room ∷ rooms) ≡ Ok tt
 unfolding check_rooms
 rooms_with need room rooms h k = then_sound (check_room need room) (check_rooms need rooms) (sym (room_enough need room h)) ∙ k
 
 -- no buffer needs no room
-pub rooms_none : (need : ℕ) → check_rooms need [] ≡ Sound
+pub rooms_none : (need : ℕ) → check_rooms need [] ≡ Ok tt
 unfolding check_rooms
 rooms_none need = refl
 
 -- what the test for rooms passes has room in each buffer
-pub rooms_held : (need : ℕ) (rooms : List ℕ) → check_rooms need rooms ≡ Sound → (room : ℕ) → Memᴰ room rooms → need ≤ room
+pub rooms_held : (need : ℕ) (rooms : List ℕ) → check_rooms need rooms ≡ Ok tt → (room : ℕ) → Memᴰ room rooms → need ≤ room
 unfolding check_rooms
 rooms_held need [] h room m = absurd (Memᴰ.not-nil m)
 rooms_held need (first ∷ rooms) h room m =
@@ -78,7 +90,7 @@ rooms_held need (first ∷ rooms) h room m =
     (Memᴰ.cases_cons m)
 
 -- two results that meet the contract of `check_rooms` are equal
-pub same_rooms : (need : ℕ) (rooms : List ℕ) (c c' : Checked) → c ≡ check_rooms need rooms → c' ≡ check_rooms need rooms → c ≡ c'
+pub same_rooms : (need : ℕ) (rooms : List ℕ) (c c' : Result Unit Refusal) → c ≡ check_rooms need rooms → c' ≡ check_rooms need rooms → c ≡ c'
 same_rooms need rooms c c' h k = h ∙ sym k
 
 -- one entry more at the front of a buffer
@@ -97,6 +109,15 @@ front_turn entries out k h room =
 pub front_over : (entries out : List ℕ) (k : ℕ) → k ≤ length entries → take k entries ++ drop k out ≡ over (take k entries) out
 unfolding over
 front_over entries out k h = ap (λ (n : ℕ). take k entries ++ drop n out) (sym (length-take-le k entries h))
+
+-- as many entries as there are and as there is room for are all that a buffer takes
+pub front_taken : (entries out : List ℕ) (n : ℕ) → n ≡ min (length entries) (length out) →
+    take n entries ++ drop n out ≡ over (take (length out) entries) out
+unfolding over
+front_taken entries out n is =
+    let all : n ≡ min (length out) (length entries) = omega (arith, is) in
+    let long : length (take (length out) entries) ≡ n = omega (arith, length-take (length out) entries, all) in
+    rw long (ap (λ (front : List ℕ). front ++ drop n out) (ap (λ (k : ℕ). take k entries) all ∙ take_min (length out) entries))
 
 -- no entry written leaves a buffer as it was
 pub over_none : (entries buffer : List ℕ) → buffer ≡ over (take 0 entries) buffer
@@ -143,29 +164,29 @@ stored_front out file h =
     sets-eq file out 0 (omega arith) ∙ ap (λ (n : ℕ). file ++ drop n out) e
 
 -- what a writer's tests passed, where it answers how much it wrote
-answer_passed : (x : Checked) (needed bytes : ℕ) → write_answer x needed ≡ Wrote bytes → (x ≡ Sound) × (bytes ≡ needed)
+answer_passed : (x : Result Unit Refusal) (needed bytes : ℕ) → write_answer x needed ≡ Ok bytes → (x ≡ Ok tt) × (bytes ≡ needed)
 unfolding write_answer
-answer_passed Sound needed bytes h = (refl, cc)
-answer_passed (Refused why) needed bytes h = absurd (let z : ◌≡◌ {A = ℕ} 0 1 = cc in omega arith)
+answer_passed (Ok _) needed bytes h = (refl, cc)
+answer_passed (Err why) needed bytes h = absurd (let z : ◌≡◌ {A = ℕ} 0 1 = cc in omega arith)
 
-module _ (tested : Checked) (needed room : ℕ) where
+module _ (tested : Result Unit Refusal) (needed room : ℕ) where
   -- a writer whose other tests refuse is refused for the same
-  pub write_fault : (why : Refusal) → tested ≡ Refused why → write_reply tested needed room ≡ Unwritten why
+  pub write_fault : (why : Refusal) → tested ≡ Err why → write_reply tested needed room ≡ Err why
   unfolding write_reply write_answer
-  write_fault why h = ap (λ (x : Checked). write_answer x needed) (then_refused tested (check_room needed room) why h)
+  write_fault why h = ap (λ (x : Result Unit Refusal). write_answer x needed) (then_refused tested (check_room needed room) why h)
 
   -- where they pass, the room decides
-  pub write_short : (why : Refusal) → tested ≡ Sound → check_room needed room ≡ Refused why → write_reply tested needed room ≡ Unwritten why
+  pub write_short : (why : Refusal) → tested ≡ Ok tt → check_room needed room ≡ Err why → write_reply tested needed room ≡ Err why
   unfolding write_reply write_answer
-  write_short why h short = ap (λ (x : Checked). write_answer x needed) (then_sound tested (check_room needed room) h ∙ short)
+  write_short why h short = ap (λ (x : Result Unit Refusal). write_answer x needed) (then_sound tested (check_room needed room) h ∙ short)
 
   -- where there is room too, the file is written
-  pub write_fits : tested ≡ Sound → check_room needed room ≡ Sound → write_reply tested needed room ≡ Wrote needed
+  pub write_fits : tested ≡ Ok tt → check_room needed room ≡ Ok tt → write_reply tested needed room ≡ Ok needed
   unfolding write_reply write_answer
-  write_fits h enough = ap (λ (x : Checked). write_answer x needed) (then_sound tested (check_room needed room) h ∙ enough)
+  write_fits h enough = ap (λ (x : Result Unit Refusal). write_answer x needed) (then_sound tested (check_room needed room) h ∙ enough)
 
   -- what an answer of bytes says: the tests have passed, the bytes are the file's, and there was room
-  pub write_says : (bytes : ℕ) → write_reply tested needed room ≡ Wrote bytes → (tested ≡ Sound) × (bytes ≡ needed) × (needed ≤ room)
+  pub write_says : (bytes : ℕ) → write_reply tested needed room ≡ Ok bytes → (tested ≡ Ok tt) × (bytes ≡ needed) × (needed ≤ room)
   unfolding write_reply
   write_says bytes h =
       let passed = answer_passed (then tested (check_room needed room)) needed bytes h in (
@@ -175,9 +196,16 @@ module _ (tested : Checked) (needed room : ℕ) where
       )
 
 -- two results of the test for room are equal
-pub same_room : (need room : ℕ) (a b : Checked) → a ≡ check_room need room → b ≡ check_room need room → a ≡ b
+pub same_room : (need room : ℕ) (a b : Result Unit Refusal) → a ≡ check_room need room → b ≡ check_room need room → a ≡ b
 same_room need room a b ha hb = ha ∙ sym hb
 
 -- two buffers that were written alike are equal
 pub same_front : (entries out a b : List ℕ) → a ≡ over (take (length out) entries) out → b ≡ over (take (length out) entries) out → a ≡ b
 same_front entries out a b ha hb = ha ∙ sym hb
+
+-- a part of a buffer that a list was copied to
+pub part_stored : (out part bytes : List ℕ) (at k : ℕ) → at + length bytes ≤ length out → part ≡ bytes → length bytes ≡ k →
+    put_mid at k out part ≡ sets out at bytes
+part_stored out part bytes at k room same long =
+    put_mid-paste at k out part bytes (length bytes) same long refl ∙ paste_all out at bytes (length bytes) refl ∙
+    sym (append_assoc (take at out) bytes (drop (at + length bytes) out)) ∙ sym (sets-eq bytes out at room)

@@ -2,22 +2,40 @@
 // exit status to tell with: where its input cannot be read it prints no answer, and where its output is lost it says so.
 #![tactic(auto)]
 
-mod input;
-mod trouble;
+use console::Why;
+use std::fmt::Display;
+use std::io::{Error, Read};
+use std::{fmt, io};
+
+// Why there is no answer: the input cannot be read, or the output is lost.
+#[derive(Drop)]
+enum Trouble {
+    Input(Error),
+    Output(Error),
+}
+
+impl Display for Trouble {
+    fn fmt<W: fmt::Write>(&self, f: &mut fmt::Formatter<W>) -> fmt::Result {
+        match self {
+            Trouble::Input(error) => write!(f, "standard input: {}", Why(error)),
+            Trouble::Output(error) => write!(f, "standard output: {}", Why(error)),
+        }
+    }
+}
+
+// There is nobody to tell where standard error is lost too.
+fn main(rt: HostRuntime) {
+    if let Err(trouble) = answer(rt) {
+        let _ = eprintln!(rt; "lightplan: {trouble}");
+    }
+}
 
 // One byte more than a request may have is read, so that an overlong one is told as such.
-fn main(rt: HostRuntime) {
+fn answer(rt: HostRuntime) -> Result<(), Trouble> {
     let mut file = [0u8; 8129];
-    let input = input::read_input(rt.stdin(), &mut file);
-    if let Some(error) = input.failed {
-        trouble::tell(rt.stderr(), b"lightplan: standard input", error);
-        return;
-    }
-    let count = input.count;
-    let page = report::report_on(&file[..count]);
-    let text = page.bytes;
-    let length = page.len;
-    if let Err(error) = rt.stdout().write_all(&text[..length]) {
-        trouble::tell(rt.stderr(), b"lightplan: standard output", error);
-    }
+    let count = io::copy(&mut rt.stdin().take(8129), &mut &mut file[..]).map_err(Trouble::Input)?;
+    let page = report::report_on(&file[..(count as usize).min(8129)]);
+    rt.stdout()
+        .write_all(&page.bytes[..page.len])
+        .map_err(Trouble::Output)
 }

@@ -1,29 +1,20 @@
 -- How many demands a request's array holds, and what stands behind the last.
-use Rattle.std.specs.Prelude.{ℕ, ◌≤◌, ◌<◌, List, map, ◌≡◌, length, get_or, take}
-use Rattle.std.proofs.Common.{ap, ◌∙◌, arith, length-take, get_or-take}
+use Rattle.std.specs.Prelude.{ℕ, ◌≤◌, ◌<◌, min, List, map, ◌≡◌, length, get_or, take}
+use Rattle.std.proofs.Common.{sym, ap, ◌∙◌, arith, length-take, get_or-take}
 use Rattle.std.proofs.lemmas.List.{length-map}
 use Rattle.std.proofs.Math.ListN.{get_or-eq_default}
 use Rattle.request.specs.declared.Demand.{Demand}
 use Rattle.request.specs.declared.Request.{Request}
 use Rattle.request.specs.View.{DemandView, view_demand, view, no_demand, demand_at, no_entry}
 use Rattle.request.proofs.ViewLaws.{map_at, demands_shown, demand_shown}
-use Rattle.meeting.specs.inner.Meeting.{DemandCount}
 
 -- as many are asked for as it says where the array has room for them
-pub demands_few : (count : ℕ) → count < 200 → DemandCount count count
-demands_few count h =
-    record {
-      within = omega arith;
-      counts = λ (demands : List Demand) full. omega (arith, full, length-map (take count demands) view_demand, length-take count demands);
-    }
+pub demands_few : (demands : List Demand) (count : ℕ) → length demands ≡ 200 → count < 200 → count ≡ length (map view_demand (take count demands))
+demands_few demands count full h = omega (arith, length-map (take count demands) view_demand, length-take count demands)
 
 -- and else the whole array
-pub demands_whole : (count : ℕ) → 200 ≤ count → DemandCount count 200
-demands_whole count h =
-    record {
-      within = omega arith;
-      counts = λ (demands : List Demand) full. omega (arith, full, length-map (take count demands) view_demand, length-take count demands);
-    }
+pub demands_whole : (demands : List Demand) (count : ℕ) → length demands ≡ 200 → 200 ≤ count → 200 ≡ length (map view_demand (take count demands))
+demands_whole demands count full h = omega (arith, length-map (take count demands) view_demand, length-take count demands)
 
 -- the demand at a listing position is what the array holds there
 pub demand_in_lem : (demands : List Demand) (count k : ℕ) → k < length (map view_demand (take count demands)) →
@@ -43,7 +34,13 @@ pub demand_none : (demands : List DemandView) (k : ℕ) → length demands ≤ k
 unfolding demand_at
 demand_none demands k h = get_or-eq_default demands no_demand {n = k} h
 
+-- the demand at a place of those that are asked for is the one at that listing position
+pub asked_at : (asked demands : List Demand) (count k : ℕ) (none : Demand) → asked ≡ take count demands → k < length asked →
+    view_demand (get_or asked k none) ≡ demand_at (map view_demand (take count demands)) k
+unfolding demand_at
+asked_at asked demands count k none shown h =
+    rw shown (sym (map_at view_demand (take count demands) k none no_demand (omega (arith, ap length shown))))
+
 -- as many are asked of a request as it shows
-pub asked_shown : (q : Request) {r : ℕ} → DemandCount q.demand_count r → length q.demands ≡ 200 → r ≡ length (view q).demands
-unfolding view
-asked_shown q asked full = asked.counts q.demands full
+pub asked_shown : (q : Request) → length q.demands ≡ 200 → min q.demand_count 200 ≡ length (view q).demands
+asked_shown q full = omega (arith, full, demands_shown q)

@@ -15,3 +15,4 @@ pub mod BoundLaws
 pub mod Reply
 pub mod ReplyLaws
 pub mod inner
+pub mod MadeLaws

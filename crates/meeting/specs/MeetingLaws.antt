@@ -2,15 +2,17 @@
 use Rattle.std.specs.Prelude.{ℕ, zero, suc, ◌+◌, ◌≤◌, ◌<◌, true, ◌||◌, List, [], ◌∷◌, ◌++◌, map, ◌≡◌, refl, ltb, eqb, length, get_or, take, drop, set, replicate}
 use Rattle.std.proofs.Math.Bool.{Bool, false, or_assoc, or-false, or-true}
 use Rattle.std.proofs.Math.Path.{sym}
-use Rattle.std.proofs.Common.{ap, ◌∙◌, arith, add-one, length-set, drop_of_length-le, take-suc, take_all, drop-cons, get_or-take, get_or-set_same, get_or-set_other, eqb-true, ltb-true, ltb-false}
+use Rattle.std.proofs.Common.{ap, ◌∙◌, arith, add-one, length-set, length-take, drop_of_length-le, take-suc, take_all, drop-cons, get_or-take, get_or-set_same, get_or-set_other, eqb-true, ltb-true, ltb-false}
 use Rattle.std.proofs.lemmas.List.{length-replicate, length-map}
-use Rattle.std.proofs.Math.ListN.{length-take, get_or-replicate}
+use Rattle.std.proofs.Math.ListN.{get_or-replicate}
 use Rattle.std.proofs.Math.Seq.{ext_get_or}
 use Rattle.std.proofs.lemmas.Bool.{eqb-false}
+use Rattle.std.specs.List.{list_any}
 use Rattle.request.specs.declared.Demand.{Demand}
 use Rattle.request.specs.View.{View, view_demand, no_demand, demand_at, no_entry, DemandView}
 use Rattle.request.proofs.ViewLaws.{map_at}
 use Rattle.request.specs.Check.{has}
+use Rattle.request.proofs.RouteLaws.{has_some as some_has}
 use Rattle.theory.proofs.TestLaws.{by_test}
 use Rattle.theory.specs.Orders.{count_up, listing}
 use Rattle.theory.proofs.ListingLaws.{count_up-length, listing_length}
@@ -21,62 +23,56 @@ use Rattle.meeting.specs.PlanLaws.{share_swap}
 use Rattle.meeting.specs.inner.Filling.{FilledTo}
 use Rattle.meeting.specs.FillingLaws.{filled_entry, unfilled_entry}
 use Rattle.meeting.specs.AskedLaws.{demand_none, demand_in_lem}
-use Rattle.meeting.specs.inner.Meeting.{RouteLength, some_link, marked_in, MarksOf}
+use Rattle.meeting.specs.inner.Meeting.{marked_in, MarksOf}
 use Rattle.meeting.specs.Row.{meeting_row}
 
 -- a route is as long as it says where the array has room for it
-pub route_short : (d : Demand) → d.hops < 32 → RouteLength d d.hops
+pub route_short : (d : Demand) → d.hops < 32 → take d.hops d.links ≡ (view_demand d).route
 unfolding view_demand
-route_short d h = record { within = omega arith; is_route = refl }
+route_short d h = refl
 
 -- and else it is the whole array
-pub route_whole : (d : Demand) → length d.links ≡ 32 → 32 ≤ d.hops → RouteLength d 32
+pub route_whole : (d : Demand) → length d.links ≡ 32 → 32 ≤ d.hops → take 32 d.links ≡ (view_demand d).route
 unfolding view_demand
-route_whole d full h =
-    record {
-      within = omega arith;
-      is_route = take_all 32 d.links (omega arith) ∙ sym (take_all d.hops d.links (omega arith));
-    }
+route_whole d full h = take_all 32 d.links (omega arith) ∙ sym (take_all d.hops d.links (omega arith))
 
 -- a test of the links from p on: the link at p, or one further on
 some_on : (test : ℕ → Bool) (route : List ℕ) (p : ℕ) → p < length route →
-    some_link test (drop p route) ≡ (test (get_or route p 0) || some_link test (drop (p + 1) route))
-unfolding some_link
+    list_any test (drop p route) ≡ (test (get_or route p 0) || list_any test (drop (p + 1) route))
 some_on test route p h = rw (add-one, drop-cons route p 0)
 
 module _ (test : ℕ → Bool) (links : List ℕ) (hops p : ℕ) (within : hops ≤ length links)
-    (so_far : some_link test (drop p (take hops links)) ≡ some_link test (take hops links)) where
+    (so_far : list_any test (drop p (take hops links)) ≡ list_any test (take hops links)) where
   -- the turn at p of a look along the route of the first links, for the first that passes the test
-  turn : p < hops → (test (get_or links p 0) || some_link test (drop (p + 1) (take hops links))) ≡ some_link test (take hops links)
+  turn : p < hops → (test (get_or links p 0) || list_any test (drop (p + 1) (take hops links))) ≡ list_any test (take hops links)
   turn h =
       rw (← get_or-take hops links p 0 h)
       (sym (some_on test (take hops links) p (omega (arith, length-take hops links))) ∙ so_far)
 
   -- it is found
-  pub link_found : p < hops → test (get_or links p 0) ≡ true → true ≡ some_link test (take hops links)
+  pub link_found : p < hops → test (get_or links p 0) ≡ true → true ≡ list_any test (take hops links)
   link_found h e = rw e at (turn h)
 
   -- it is not the one at p
   pub link_passed : p < hops → test (get_or links p 0) ≡ false →
-      some_link test (drop (p + 1) (take hops links)) ≡ some_link test (take hops links)
+      list_any test (drop (p + 1) (take hops links)) ≡ list_any test (take hops links)
   link_passed h e = rw e at (turn h)
 
   -- there is none
-  pub no_link_lem : hops ≤ p → false ≡ some_link test (take hops links)
-  unfolding some_link
+  pub no_link_lem : hops ≤ p → false ≡ list_any test (take hops links)
   no_link_lem h = rw (drop_of_length-le (take hops links) {i = p} (omega (arith, length-take hops links))) at so_far
 
 -- a number stands in a list when some entry is that number
-pub has_some : (x : ℕ) (l : List ℕ) → has x l ≡ some_link (eqb x) l
-unfolding has some_link
+pub has_some : (x : ℕ) (l : List ℕ) → has x l ≡ list_any (eqb x) l
+unfolding has
 has_some x [] = refl
 has_some x (y ∷ l) = rw (has_some x l)
 
 -- two routes share a link when some link of the one stands in the other
-pub share_some : (l route : List ℕ) → some_link (λ a. has a route) l ≡ share_link l route
-unfolding share_link some_link
+pub share_some : (l route : List ℕ) → list_any (λ (x : ℕ). list_any (λ (y : ℕ). eqb y x) route) l ≡ share_link l route
+unfolding share_link
 share_some [] route = refl
-share_some (a ∷ l) route = rw (share_some l route)
+share_some (a ∷ l) route = rw (some_has a route, share_some l route)
 
 -- one more entry
 pub has_append : (x : ℕ) (l : List ℕ) (y : ℕ) → has x (l ++ (y ∷ [])) ≡ (has x l || eqb x y)

@@ -1,52 +1,48 @@
 -- The replies of the call for the bound, one law for each way it can go; and what a bound promises.
-use Rattle.std.specs.Prelude.{ℕ, ◌≤◌, List, [], ◌∷◌, ◌≡◌, refl, get_or}
+use Rattle.std.specs.Prelude.{ℕ, ◌≤◌, List, [], ◌∷◌, ◌≡◌, refl, get_or, Result, Ok, Err}
 use Rattle.std.proofs.Common.{sym, ap, subst, ◌∙◌, arith}
 use Rattle.refusal.specs.declared.Refusal.{Refusal}
 use Rattle.refusal.specs.Told.{Told}
 use Rattle.refusal.specs.ToldLaws.{refusal_told_whole, refusal_told_fault}
-use Rattle.request.specs.declared.Checked.{Checked}
-use Rattle.request.specs.declared.Checked.TheVariants as checked
 use Rattle.request.specs.declared.Request.{Request}
 use Rattle.request.specs.View.{View, view}
 use Rattle.request.specs.Check.{check}
 use Rattle.request.specs.Whole.{Whole}
 use Rattle.request.proofs.SoundLaws.{check_sound, whole_counted}
 use Rattle.request.proofs.LimitsLaws.{checked_limits}
-use Rattle.meeting.specs.declared.BoundReply.{BoundReply}
-use Rattle.meeting.specs.declared.BoundReply.TheVariants as bound-reply
 use Rattle.meeting.specs.Bound.{bound_of}
 use Rattle.meeting.specs.Plan.{AllowedPlan, end_of_plan}
 use Rattle.meeting.specs.BoundLaws.{plan_above_bound}
 use Rattle.meeting.specs.Reply.{bound_after, bound_reply, bound_told}
 
 -- the bound of a request that passes its test
-pub bound_answered : (v : View) (b : ℕ) → check v ≡ checked.Sound → b ≡ bound_of v → bound-reply.Bound b ≡ bound_reply v
+pub bound_answered : (v : View) (b : ℕ) → check v ≡ Ok tt → b ≡ bound_of v → Ok b ≡ bound_reply v
 unfolding bound_reply bound_after
 bound_answered v b passes e =
-    ap bound-reply.Bound e ∙ sym (ap (λ (c : Checked). bound_after c (bound-reply.Bound (bound_of v))) passes)
+    ap Ok e ∙ sym (ap (λ (c : Result Unit Refusal). bound_after c (Ok (bound_of v))) passes)
 
 -- the refusal of another
-pub bound_refused : (v : View) (why : Refusal) → check v ≡ checked.Refused why → bound-reply.Refused why ≡ bound_reply v
+pub bound_refused : (v : View) (why : Refusal) → check v ≡ Err why → Err why ≡ bound_reply v
 unfolding bound_reply bound_after
-bound_refused v why fails = sym (ap (λ (c : Checked). bound_after c (bound-reply.Bound (bound_of v))) fails)
+bound_refused v why fails = sym (ap (λ (c : Result Unit Refusal). bound_after c (Ok (bound_of v))) fails)
 
 -- two results of the call are equal
-pub same_bound : (v : View) (a b : BoundReply) → a ≡ bound_reply v → b ≡ bound_reply v → a ≡ b
+pub same_bound : (v : View) (a b : Result ℕ Refusal) → a ≡ bound_reply v → b ≡ bound_reply v → a ≡ b
 same_bound v a b ha hb = ha ∙ sym hb
 
 -- two replies that are told alike are the same
-pub bound_told_whole : (r r' : BoundReply) → bound_told r ≡ bound_told r' → r ≡ r'
+pub bound_told_whole : (r r' : Result ℕ Refusal) → bound_told r ≡ bound_told r' → r ≡ r'
 unfolding bound_told
-bound_told_whole (bound-reply.Bound b) (bound-reply.Bound b') h = ap (λ (t : Told ℕ). bound-reply.Bound (get_or t.1 0 0)) h
-bound_told_whole (bound-reply.Bound b) (bound-reply.Refused why) h = absurd (refusal_told_fault why _ _ (sym h))
-bound_told_whole (bound-reply.Refused why) (bound-reply.Bound b) h = absurd (refusal_told_fault why _ _ h)
-bound_told_whole (bound-reply.Refused why) (bound-reply.Refused why') h = ap bound-reply.Refused (refusal_told_whole why why' h)
+bound_told_whole (Ok b) (Ok b') h = ap (λ (t : Told ℕ). Ok (get_or t.1 0 0)) h
+bound_told_whole (Ok b) (Err why) h = absurd (refusal_told_fault why _ _ (sym h))
+bound_told_whole (Err why) (Ok b) h = absurd (refusal_told_fault why _ _ h)
+bound_told_whole (Err why) (Err why') h = ap Err (refusal_told_whole why why' h)
 
 -- a bound in reply: the request passed its test, and this is its bound
-bound_given : (c : Checked) (b found : ℕ) → bound_after c (bound-reply.Bound found) ≡ bound-reply.Bound b → (c ≡ checked.Sound) × (found ≡ b)
+bound_given : (c : Result Unit Refusal) (b found : ℕ) → bound_after c (Ok found) ≡ Ok b → (c ≡ Ok tt) × (found ≡ b)
 unfolding bound_after
-bound_given checked.Sound b found e = (refl, cc)
-bound_given (checked.Refused why) b found e = absurd (let z : ◌≡◌ {A = ℕ} 0 1 = cc in omega arith)
+bound_given (Ok _) b found e = (refl, cc)
+bound_given (Err why) b found e = absurd (let z : ◌≡◌ {A = ℕ} 0 1 = cc in omega arith)
 
 -- no allowed plan ends below the bound that the call tells
 pub bound_promise : (q : Request) → Whole q → (b : ℕ) → bound_told (bound_reply (view q)) ≡ (0, b ∷ []) →
@@ -54,7 +50,7 @@ pub bound_promise : (q : Request) → Whole q → (b : ℕ) → bound_told (boun
 unfolding bound_reply bound_told
 bound_promise q whole b e starts allowed =
     let (passes, same) =
-    bound_given (check (view q)) b (bound_of (view q)) (bound_told_whole (bound_reply (view q)) (bound-reply.Bound b) e) in
+    bound_given (check (view q)) b (bound_of (view q)) (bound_told_whole (bound_reply (view q)) (Ok b) e) in
     let limits = checked_limits q whole passes in
     subst (λ (n : ℕ). n ≤ end_of_plan (view q) starts) same
     (plan_above_bound (view q) (check_sound (view q) (whole_counted q whole) passes) limits.demands_there limits.routes_there starts allowed)

@@ -1,21 +1,21 @@
 -- Words: what their bits are, and that two routes share a link where their words have a bit in common.
-use Rattle.std.specs.Prelude.{ℕ, zero, suc, ◌+◌, ◌*◌, ◌/◌, ◌%◌, ◌^◌, ◌≤◌, ◌<◌, min, max, List, [], ◌∷◌, ◌≡◌, refl, ltb, leb, eqb, length, get_or, take}
-use mathlib.Core.Bool.{Bool, true, false, ◌&&◌, ◌||◌, or-false}
+use Rattle.std.specs.Prelude.{ℕ, zero, suc, ◌+◌, ◌*◌, ◌/◌, ◌%◌, ◌^◌, ◌≤◌, ◌<◌, min, max, List, [], ◌∷◌, ◌≡◌, refl, ltb, eqb, length, get_or, take}
+use mathlib.Core.Bool.{Bool, true, false, ◌&&◌, ◌||◌, or-false, or_assoc}
+use Rattle.std.specs.List.{fold}
 use Rattle.std.proofs.Math.Path.{sym}
-use Rattle.std.proofs.Common.{subst, ◌∙◌, mod-lt, div-add-mod', lt_of_le_of_lt, one-mul, add-one, arith, pow_pos, shr_lt, shl_exact, eqb-true, ltb-true, ltb-false, leb-false, ne_eqb, lt-ltb, le-ltb}
+use Rattle.std.proofs.Common.{subst, ◌∙◌, mod-lt, div-add-mod', lt_of_le_of_lt, one-mul, add-one, arith, pow_pos, shr_lt, shl_exact, eqb-true, ltb-true, ltb-false, ne_eqb, lt-ltb, le-ltb}
 use Rattle.std.proofs.Math.Arith.{digits_div, digits_mod}
 use Rattle.std.specs.Int.Bits.{bit_and, bit_or, and_step, or_step, or_zero_r, shifted_half, shifted_even}
 use Rattle.std.proofs.lemmas.Nat.{and_le_l, or_lt}
 use Rattle.std.proofs.Math.Dec.{eqb-zero-suc, eqb-suc-zero, eqb-suc-suc}
 use Rattle.std.proofs.Math.Pow.{pow-lt}
-use Rattle.std.proofs.lemmas.Bool.{eqb-false, lt-leb, not-true}
+use Rattle.std.proofs.lemmas.Bool.{eqb-false}
 use Rattle.request.specs.Check.{has}
 use Rattle.request.specs.Sharing.{share_link}
-use Rattle.theory.proofs.TestLaws.{by_test, not_both, not_true_false, and_both, and_first, and_second, or_first, or_second}
+use Rattle.theory.proofs.TestLaws.{by_test, not_both, not_true_false, and_both, and_first, and_second}
 use Rattle.meeting.specs.Compact.{link_bit, word_of, share_bit}
 use Rattle.meeting.specs.PlanLaws.{shared_link, sharing, share_swap}
 use Rattle.meeting.specs.MeetingLaws.{has_take}
-use Rattle.meeting.specs.inner.Meeting.{some_link}
 use Rattle.meeting.specs.inner.Word.{bit_of, WordOf, all_low}
 
 -- the lower of two digits is 1 where both are
@@ -103,18 +103,14 @@ no_bits (suc k) a h none =
     let even : (a % 2 ≡ 1) → ⊥ = eqb-false (a % 2) 1 (none 0 (omega arith)) in
     no_digits a half even
 
--- a number of a list of which none is 64 or more is below 64
-none_higher : (list : List ℕ) (x : ℕ) → some_link (leb 64) list ≡ false → has x list ≡ true → x < 64
-unfolding some_link has
-none_higher [] x low h = absurd (mathlib.Core.Bool.false≢true h)
-none_higher (a ∷ list) x low h =
-    by_test (eqb x a)
-    (λ t. subst (λ (y : ℕ). y < 64) (sym (eqb-true x a t)) (leb-false 64 a (or_first (leb 64 a) (some_link (leb 64) list) low)))
-    (λ f. none_higher list x (or_second (leb 64 a) (some_link (leb 64) list) low) (rw f at h))
-
+-- a number of a list of which all are below 64
 low_has : (list : List ℕ) (x : ℕ) → all_low list ≡ true → has x list ≡ true → x < 64
-unfolding all_low
-low_has list x low h = none_higher list x (not-true (some_link (leb 64) list) low) h
+unfolding all_low has
+low_has [] x low h = absurd (mathlib.Core.Bool.false≢true h)
+low_has (a ∷ list) x low h =
+    by_test (eqb x a)
+    (λ t. subst (λ (y : ℕ). y < 64) (sym (eqb-true x a t)) (ltb-true a 64 (and_first (ltb a 64) (all_low list) low)))
+    (λ f. low_has list x (and_second (ltb a 64) (all_low list) low) (rw f at h))
 
 -- the one number of a list
 only_low : (link : ℕ) → link < 64 → (p : ℕ) → p < 1 → get_or (link ∷ []) p 0 < 64
@@ -123,9 +119,9 @@ only_low link low (suc p) h = absurd (omega arith)
 
 -- a list of numbers below 64 has none that is higher
 pub all_low_lem : (list : List ℕ) → ((p : ℕ) → p < length list → get_or list p 0 < 64) → all_low list ≡ true
-unfolding all_low some_link
+unfolding all_low
 all_low_lem [] low = refl
-all_low_lem (a ∷ list) low = rw (lt-leb 64 a (low 0 (omega arith))) (all_low_lem list (λ p h. low (suc p) (omega arith)))
+all_low_lem (a ∷ list) low = rw (lt-ltb a 64 (low 0 (omega arith))) (all_low_lem list (λ p h. low (suc p) (omega arith)))
 
 module _ (r s : List ℕ) (a b : ℕ) (of-r : WordOf r a) (of-s : WordOf s b) where
   -- a bit that both words have is a link of both routes
@@ -161,6 +157,10 @@ pub bit_high : (link : ℕ) → 64 ≤ link → 0 ≡ link_bit link
 unfolding link_bit
 bit_high link h = rw (le-ltb link 64 h)
 
+-- a link's bit joined to a word
+abbrev pub join_link : ℕ → ℕ → ℕ
+join_link word link = bit_or word (link_bit link)
+
 -- the word of one link is one
 bit_short : (link : ℕ) → link_bit link < 2 ^ 64
 unfolding link_bit
@@ -176,6 +176,21 @@ bit_of_lem x link h =
     by_test (ltb link 64)
     (λ t. rw t (one_bit x link))
     (λ f. rw f (zero_bit x ∙ sym (ne_eqb x link (λ e. omega (arith, e, ltb-false link 64 f)))))
+
+-- the bits of a list's links, joined to a word one after the other
+pub joined_word : (list : List ℕ) (word : ℕ) → word < 2 ^ 64 →
+    (fold join_link word list < 2 ^ 64) × ((x : ℕ) → x < 64 → bit_of (fold join_link word list) x ≡ (bit_of word x || has x list))
+unfolding has
+joined_word [] word short = (short, λ x h. sym (or-false (bit_of word x)))
+joined_word (link ∷ list) word short =
+    let more = joined_word list (bit_or word (link_bit link)) (or_lt 64 word (link_bit link) short (bit_short link)) in
+    (more.0, λ x h. more.1 x h ∙ rw (or_bit x word (link_bit link), bit_of_lem x link h) (or_assoc (bit_of word x) (eqb x link) (has x list)))
+
+-- joined to none they are the word of the list
+pub word_joined : (list : List ℕ) → WordOf list (fold join_link 0 list)
+word_joined list =
+    let all = joined_word list 0 (pow_pos 64) in
+    record { short = all.0; bits = λ x h. rw (zero_bit x) at (all.1 x h) }
 
 -- the word of no links
 pub word_none : (list : List ℕ) → WordOf (take 0 list) 0

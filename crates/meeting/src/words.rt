@@ -5,7 +5,7 @@ ghost use Rattle.meeting.specs.Compact.{compact_of, share_bit, word_row};
 
 use crate::Compact;
 use crate::route::route_word;
-use crate::row::demands_asked;
+use crate::row::asked_of;
 use request::{Request, width_of};
 
 // A request made small, in one go over its demands.
@@ -14,15 +14,11 @@ pub fn compacted(request: Request) -> Compact
 {
     let band = request.band;
     let count = request.demand_count;
-    let asked = demands_asked(count);
-    let mut widths = [0u16; 200];
-    let mut words = [0u64; 200];
-    let mut j: usize = 0;
-    while j < asked {
-        let demand = request.demands[j];
-        widths[j] = width_of(demand);
-        words[j] = route_word(demand);
-        j += 1;
+    let mut widths = [0; 200];
+    let mut words = [0; 200];
+    for (j, demand) in asked_of(&request.demands, count).iter().enumerate() {
+        widths[j] = width_of(*demand);
+        words[j] = route_word(demand.route());
     }
     Compact {
         slots: band.slots,
@@ -34,6 +30,7 @@ pub fn compacted(request: Request) -> Compact
 }
 
 // Whether two words have a bit in common.
+#[tactic(auto, unfolding(crate::specs::Compact::share_bit))]
 pub fn share_bit(word: u64, other: u64) -> bool
     ensures { result ≡ share_bit word other }
 {
@@ -44,15 +41,6 @@ pub fn share_bit(word: u64, other: u64) -> bool
 pub fn word_row(words: [u64; 200], i: usize) -> [bool; 200]
     ensures { result ≡ word_row words i }
 {
-    let mut row = [false; 200];
-    if 200 <= i {
-        return row;
-    }
-    let word = words[i];
-    let mut j: usize = 0;
-    while j < 200 {
-        row[j] = share_bit(words[j], word);
-        j += 1;
-    }
-    row
+    let word = words.get(i).copied().unwrap_or(0);
+    words.map(|other| share_bit(other, word))
 }

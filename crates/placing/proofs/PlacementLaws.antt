@@ -1,11 +1,11 @@
 -- First fit as it goes on: how it starts, what one demand more does, and how it ends.
-use Rattle.std.specs.Prelude.{ℕ, zero, suc, ◌+◌, ◌-◌, ◌≤◌, ◌<◌, max, ◌≡◌, refl, eqb, length, get_or, set, take, replicate}
+use Rattle.std.specs.Prelude.{ℕ, zero, suc, ◌+◌, ◌-◌, ◌≤◌, ◌<◌, max, ◌≡◌, refl, eqb, length, get_or, set, take, replicate, Some, None, Ok, Err}
 use mathlib.Core.List.Memᴰ
 use mathlib.Core.List.{List, [], ◌∷◌, ◌++◌, Memᴰ}
 use Rattle.std.proofs.Common.{⊎_elim, subst, ◌∙◌, arith, add-one, drop_of_length-le, take-append-drop, take-suc, drop-cons, get_or-set_same}
 use Rattle.std.proofs.Math.Path.{sym, ap, ap₂}
 use Rattle.std.proofs.Math.ListN.{drop, length-set}
-use Rattle.std.proofs.lemmas.List.{length-replicate}
+use Rattle.std.proofs.lemmas.List.{length-replicate, get_or-replicate}
 use Rattle.std.proofs.Math.Seq.{get_or-set_other}
 use borrow.Author.Tests.{eqb-true, eqb-false}
 use Rattle.refusal.specs.declared.Refusal.TheVariants.{NoStart}
@@ -18,7 +18,6 @@ use Rattle.theory.proofs.ArrangeLaws.{no_repeats_middle}
 use Rattle.theory.specs.Earlier.{NoRepeats}
 use Rattle.theory.proofs.TestLaws.{by_test}
 use Rattle.board.specs.declared.Placement.{Placement}
-use Rattle.board.specs.declared.Spot.TheVariants.{At, Nowhere}
 use Rattle.board.specs.Board.{entry_of, placed_beside, placed_one}
 use Rattle.board.proofs.BoardLaws.{spot_found, spot_none}
 use Rattle.board.proofs.BesideLaws.{board_same, standing_none, standing_more}
@@ -31,10 +30,10 @@ use Rattle.meeting.specs.declared.Compact.{Compact}
 use Rattle.meeting.specs.Compact.{compact_of, word_row}
 use Rattle.meeting.specs.CompactLaws.{small_problem, word_entry}
 use Rattle.meeting.specs.inner.Small.{problem_in, Small}
-use Rattle.placing.specs.declared.PlacedReply.TheVariants as placed-reply
+use Rattle.placing.specs.declared.Unplaced.TheVariants as unplaced
 use Rattle.placing.specs.FirstFit.{fitted, fitted_reply, blocker_entry}
 use Rattle.placing.proofs.LowestFreeLaws.{fill_row, front_once}
-use Rattle.placing.specs.inner.Placement.{OrderAsked, PlaceAsked, fitted_in, reply_in, PlanKept, PlacedTo}
+use Rattle.placing.specs.inner.Placement.{OrderAsked, fitted_in, reply_in, PlanKept, PlacedTo}
 
 -- a clean slate holds nothing
 pub clean_slate : (n j : ℕ) → ◌≡◌ {A = ℕ} (get_or (replicate n 0) j 0) 0
@@ -43,18 +42,18 @@ clean_slate (suc n) zero = refl
 clean_slate (suc n) (suc j) = clean_slate n j
 
 -- at the start nothing is placed
-pub placed_none : (c : Compact) (order at by : List ℕ) → PlaceAsked c order at by → PlacedTo c order 0 0 at by (replicate 200 0)
+pub placed_none : (c : Compact) (order : List ℕ) → PlacedTo c order 0 0 (replicate 200 0) (replicate 200 65535) (replicate 200 0)
 unfolding fitted_in start_in blocker_in blocker_entry entry_of
-placed_none c order at by clean =
+placed_none c order =
     record {
       rest = rw (fill_nil (problem_in c) []);
       end_is = rw (fill_nil (problem_in c) []) (sym (top_nil (problem_in c)));
       end_within = omega arith;
-      starts_are = λ j h. rw (fill_nil (problem_in c) []) (clean.starts_clean j h);
-      starts_full = clean.starts_full;
-      blockers_are = λ j h. rw (fill_nil (problem_in c) []) (clean.blockers_clean j h);
-      blockers_full = clean.blockers_full;
-      standing = rw (fill_nil (problem_in c) []) (standing_none (problem_in c) c.count at (replicate 200 0) (clean_slate 200));
+      starts_are = λ j h. rw (fill_nil (problem_in c) []) (clean_slate 200 j);
+      starts_full = length-replicate {A = ℕ} 200 0;
+      blockers_are = λ j h. rw (fill_nil (problem_in c) []) (get_or-replicate {A = ℕ} 200 j 65535 0 h);
+      blockers_full = length-replicate {A = ℕ} 200 65535;
+      standing = rw (fill_nil (problem_in c) []) (standing_none (problem_in c) c.count (replicate 200 0) (replicate 200 0) (clean_slate 200));
       ends_full = length-replicate {A = ℕ} 200 0;
     }
 
@@ -115,7 +114,7 @@ module _ (c : Compact) (order : List ℕ) (k end : ℕ) (at by ends : List ℕ) 
 
   module _ (p : Placement) (is : p ≡ placed_beside (problem_in c) rows here c.slots) (entry : ℕ) (named : entry ≡ entry_of p.blocker) where
     -- no start inside the band: first fit is refused at this demand
-    placed_refused : Nowhere ≡ p.spot → (problem_in c).width here ≤ c.slots → fitted_in c order ≡ refused rows here
+    placed_refused : None ≡ p.spot → (problem_in c).width here ≤ c.slots → fitted_in c order ≡ refused rows here
     placed_refused none fits =
         so_far.rest
         ∙ ap (first_fit (problem_in c) c.slots rows) (drop-cons order k 0 h)
@@ -123,16 +122,16 @@ module _ (c : Compact) (order : List ℕ) (k end : ℕ) (at by ends : List ℕ) 
         (spot_none (problem_in c) rows here c.slots p is (sym none) fits).0
 
     -- the reply is 13 with who is in the way
-    pub refused_reply : Nowhere ≡ p.spot → (problem_in c).width here ≤ c.slots →
-        placed-reply.Blocked (NoStart here) entry ≡ reply_in c (fitted_in c order)
+    pub refused_reply : None ≡ p.spot → (problem_in c).width here ≤ c.slots →
+        Err (unplaced.Blocked (NoStart here) entry) ≡ reply_in c (fitted_in c order)
     unfolding reply_in blocker_entry
     refused_reply none fits =
-        ap (placed-reply.Blocked (NoStart here))
+        ap (λ (n : ℕ). Err (unplaced.Blocked (NoStart here) n))
         (named ∙ ap entry_of (spot_none (problem_in c) rows here c.slots p is (sym none) fits).1)
         ∙ sym (ap (reply_in c) (placed_refused none fits))
 
     -- and nothing is kept
-    pub refused_kept : Nowhere ≡ p.spot → (problem_in c).width here ≤ c.slots → PlanKept (problem_in c) (fitted_in c order) at by
+    pub refused_kept : None ≡ p.spot → (problem_in c).width here ≤ c.slots → PlanKept (problem_in c) (fitted_in c order) at by
     refused_kept none fits =
         let out : fitted_in c order ≡ refused rows here = placed_refused none fits in
         record {
@@ -143,13 +142,13 @@ module _ (c : Compact) (order : List ℕ) (k end : ℕ) (at by ends : List ℕ) 
         }
 
     -- a start that was found ends inside the band
-    pub found_inside : (s : ℕ) → At s ≡ p.spot → s + (problem_in c).width here ≤ c.slots
+    pub found_inside : (s : ℕ) → Some s ≡ p.spot → s + (problem_in c).width here ≤ c.slots
     found_inside s found =
         let (low, inside, blocker) = spot_found (problem_in c) rows here c.slots p is s (sym found) in
         omega (arith, low, inside, end_is (problem_in c) here (lowest (problem_in c) rows here))
 
     -- one demand more is placed at its lowest start
-    pub placed_more : (s up : ℕ) → At s ≡ p.spot → up ≡ max end (s + (problem_in c).width here) →
+    pub placed_more : (s up : ℕ) → Some s ≡ p.spot → up ≡ max end (s + (problem_in c).width here) →
         PlacedTo c order (k + 1) up (set at here s) (set by here entry) (set ends here (s + (problem_in c).width here))
     unfolding blocker_entry
     placed_more s up found ups =
@@ -212,9 +211,9 @@ module _ (c : Compact) (order : List ℕ) (k end : ℕ) (at by ends : List ℕ) 
       ∙ first_fit-nil (problem_in c) c.slots (fill (problem_in c) [] (take k order))
 
   -- the reply where all are placed
-  pub placed_answer : placed-reply.Placed end ≡ reply_in c (fitted_in c order)
+  pub placed_answer : Ok end ≡ reply_in c (fitted_in c order)
   unfolding reply_in
-  placed_answer = ap placed-reply.Placed so_far.end_is ∙ sym (ap (reply_in c) placed_all)
+  placed_answer = ap Ok so_far.end_is ∙ sym (ap (reply_in c) placed_all)
 
   -- the starts and the blockers kept are those of the rows
   pub placed_kept : PlanKept (problem_in c) (fitted_in c order) at by
@@ -251,9 +250,9 @@ module _ (v : View) (sound : SoundRequest v) (limits : Limits v) (c : Compact) (
   -- the reply to any fitting
   same_reply : (out : Fitted) → reply_in c out ≡ fitted_reply v out
   unfolding reply_in fitted_reply
-  same_reply (placed rows) = ap (λ (P : Problem). placed-reply.Placed (top P rows)) same_problem
+  same_reply (placed rows) = ap (λ (P : Problem). Ok (top P rows)) same_problem
   same_reply (refused rows i) =
-      ap₂ (λ (P : Problem) (S : ℕ). placed-reply.Blocked (NoStart i) (blocker_entry (blocker_at P rows i (S - P.width i)))) same_problem same_slots
+      ap₂ (λ (P : Problem) (S : ℕ). Err (unplaced.Blocked (NoStart i) (blocker_entry (blocker_at P rows i (S - P.width i))))) same_problem same_slots
 
   -- so the reply to the request's
   pub small_reply : (order : List ℕ) → reply_in c (fitted_in c order) ≡ fitted_reply v (fitted v order)

@@ -2,7 +2,7 @@
 use Prim.Native.Nat.{ℕ, ◌+◌, ◌-◌, ◌≤◌, ◌<◌}
 use Rattle.std.proofs.Math.Bool.{false}
 use mathlib.Core.List.{List, [], ◌∷◌, Memᴰ}
-use Rattle.std.specs.Prelude.{◌⊎◌, ◌≡◌, refl, length, get_or, drop}
+use Rattle.std.specs.Prelude.{◌⊎◌, ◌≡◌, refl, length, get_or, drop, Result, Ok, Err}
 use Rattle.std.proofs.Common.{inl, inr, ◌∙◌, arith, length-append, length-drop, get_or-drop}
 use Rattle.std.proofs.Math.Path.{sym, ap, subst}
 use Rattle.std.proofs.Math.ListN.{get_or-append}
@@ -23,8 +23,6 @@ use Rattle.theory.specs.Earlier.{NoRepeats}
 use Rattle.theory.specs.Orders.{listing}
 use Rattle.theory.proofs.ListingLaws.{listing_below, listing_no_repeats}
 use Rattle.request.specs.declared.Request.{Request}
-use Rattle.request.specs.declared.Checked.{Checked}
-use Rattle.request.specs.declared.Checked.TheVariants as checked
 use Rattle.request.specs.View.{View, view}
 use Rattle.request.specs.Check.{then, check}
 use Rattle.request.proofs.CheckLaws.{first_sound, next_sound}
@@ -32,8 +30,8 @@ use Rattle.request.specs.Told.{checked_told}
 use Rattle.request.specs.Whole.{Whole}
 use Rattle.request.proofs.LimitsLaws.{checked_limits}
 use Rattle.request.proofs.SoundLaws.{width_inside}
-use Rattle.placing.specs.declared.PlacedReply.{PlacedReply}
-use Rattle.placing.specs.declared.PlacedReply.TheVariants as placed-reply
+use Rattle.placing.specs.declared.Unplaced.{Unplaced}
+use Rattle.placing.specs.declared.Unplaced.TheVariants as unplaced
 use Rattle.request.specs.Sharing.{problem_of}
 use Rattle.meeting.specs.Plan.{start_at, AllowedPlan, end_of_plan, starts_of}
 use Rattle.meeting.specs.PlanLaws.{ends_to_slots}
@@ -48,11 +46,11 @@ use Rattle.placing.specs.LowestFree.{InTheWay, FrontWritten, PlanGiven, NoStartF
 use Rattle.placing.proofs.LowestFreeLaws.{front_once, before_clashes, before_blocked, each_lowest, each_blocked}
 
 -- a plan's end in reply: the tests passed, and it is the reply to the fitting
-pub end_given : (c : Checked) (reply : PlacedReply) (end : ℕ) → placed_after c reply ≡ placed-reply.Placed end →
-    (c ≡ checked.Sound) × (reply ≡ placed-reply.Placed end)
+pub end_given : (c : Result Unit Refusal) (reply : Result ℕ Unplaced) (end : ℕ) → placed_after c reply ≡ Ok end →
+    (c ≡ Ok tt) × (reply ≡ Ok end)
 unfolding placed_after
-end_given checked.Sound reply end e = (refl, e)
-end_given (checked.Refused why) reply end e = absurd (let z : ◌≡◌ {A = ℕ} 0 1 = cc in omega arith)
+end_given (Ok _) reply end e = (refl, e)
+end_given (Err why) reply end e = absurd (let z : ◌≡◌ {A = ℕ} 0 1 = cc in omega arith)
 
 -- an index behind the first K
 apart_by : (K k : ℕ) → K ≤ k → k ≡ K + (k - K)
@@ -82,17 +80,17 @@ unfolding over
 front_entry front buffer after j h is =
     ap (λ (l : List ℕ). get_or l j 0) is ∙ get_or-append front (drop (length front) buffer) 0 j h
 
-module _ (v : View) (order rooms : List ℕ) (tested : check_first_fit v order rooms ≡ checked.Sound) where
+module _ (v : View) (order rooms : List ℕ) (tested : check_first_fit v order rooms ≡ Ok tt) where
   -- what the tests leave to know
-  pub request_sound : check v ≡ checked.Sound
+  pub request_sound : check v ≡ Ok tt
   unfolding check_first_fit
   request_sound = first_sound (check v) (then (check_order v.demand_count order) (check_rooms v.demand_count rooms)) tested
 
-  order_and_rooms : then (check_order v.demand_count order) (check_rooms v.demand_count rooms) ≡ checked.Sound
+  order_and_rooms : then (check_order v.demand_count order) (check_rooms v.demand_count rooms) ≡ Ok tt
   unfolding check_first_fit
   order_and_rooms = next_sound (check v) (then (check_order v.demand_count order) (check_rooms v.demand_count rooms)) tested
 
-  pub order_sound : check_order v.demand_count order ≡ checked.Sound
+  pub order_sound : check_order v.demand_count order ≡ Ok tt
   order_sound = first_sound (check_order v.demand_count order) (check_rooms v.demand_count rooms) order_and_rooms
 
   -- each buffer has room
@@ -219,7 +217,7 @@ module _ (v : View) (order rooms : List ℕ) (tested : check_first_fit v order r
           }
 
 -- an end in reply to a fitting is the top of its rows
-end_is_top : (v : View) (out : Fitted) (end : ℕ) → fitted_reply v out ≡ placed-reply.Placed end →
+end_is_top : (v : View) (out : Fitted) (end : ℕ) → fitted_reply v out ≡ Ok end →
     (rows : List Row) × (out ≡ placed rows) × (top (problem_of v) rows ≡ end)
 unfolding fitted_reply
 end_is_top v (placed rows) end e = (rows, refl, cc)
@@ -237,7 +235,7 @@ first_fit_promise q whole order starts blockers end e =
     let rooms : List ℕ = length starts ∷ length blockers ∷ [] in
     let (tested, answer) =
     end_given (check_first_fit v order rooms) (fitted_reply v (fitted v order)) end
-    (placed_told_whole (first_fit_reply v order rooms) (placed-reply.Placed end) e) in
+    (placed_told_whole (first_fit_reply v order rooms) (Ok end) e) in
     let (rows, out, tops) = end_is_top v (fitted v order) end answer in
     let limits = checked_limits q whole (request_sound v order rooms tested) in
     subst (PlanGiven v order starts blockers (first_fit_starts v order rooms starts) (first_fit_blockers v order rooms blockers)) tops
@@ -245,7 +243,7 @@ first_fit_promise q whole order starts blockers end e =
     blockers (room_enough v order rooms tested (length blockers) (Memᴰ.tail (Memᴰ.head refl))) limits.demands_there)
 
 -- a blocker in reply to a fitting: it was refused
-blocked_is : (v : View) (out : Fitted) (why : Refusal) (b : ℕ) → fitted_reply v out ≡ placed-reply.Blocked why b →
+blocked_is : (v : View) (out : Fitted) (why : Refusal) (b : ℕ) → fitted_reply v out ≡ Err (unplaced.Blocked why b) →
     (rows : List Row)
     × (i : ℕ)
     × (out ≡ refused rows i)
@@ -256,18 +254,18 @@ blocked_is v (placed rows) why b e = absurd (let z : ◌≡◌ {A = ℕ} 0 1 = c
 blocked_is v (refused rows i) why b e = (rows, i, refl, cc, cc)
 
 -- what a reply that is no plan's end tells: a test's refusal, or 13
-fault_is : (v : View) (order rooms : List ℕ) (c : Checked) → check_first_fit v order rooms ≡ c → (r : PlacedReply) →
+fault_is : (v : View) (order rooms : List ℕ) (c : Result Unit Refusal) → check_first_fit v order rooms ≡ c → (r : Result ℕ Unplaced) →
     placed_after c (fitted_reply v (fitted v order)) ≡ r → (number : ℕ) (values : List ℕ) → 1 ≤ number → placed_told r ≡ (number, values) →
     (checked_told c ≡ (number, values))
     ⊎ ((number ≡ 13) × (place : ℕ) × (blocker : ℕ) × (values ≡ place ∷ blocker ∷ []) × NoStartFree v order place blocker)
 unfolding placed_told placed_after checked_told
-fault_is v order rooms c is (placed-reply.Placed end) e number values fault told = absurd (omega (arith, fault, ap (λ (t : Told ℕ). t.0) told))
-fault_is v order rooms (checked.Refused found) is (placed-reply.Refused why) e number values fault told =
+fault_is v order rooms c is (Ok end) e number values fault told = absurd (omega (arith, fault, ap (λ (t : Told ℕ). t.0) told))
+fault_is v order rooms (Err found) is (Err (unplaced.Refused why)) e number values fault told =
     let same : found ≡ why = cc in inl (ap refusal_told same ∙ told)
-fault_is v order rooms checked.Sound is (placed-reply.Refused why) e number values fault told = absurd (fitting_tested v (fitted v order) why e)
-fault_is v order rooms (checked.Refused found) is (placed-reply.Blocked why b) e number values fault told =
+fault_is v order rooms (Ok _) is (Err (unplaced.Refused why)) e number values fault told = absurd (fitting_tested v (fitted v order) why e)
+fault_is v order rooms (Err found) is (Err (unplaced.Blocked why b)) e number values fault told =
     absurd (let z : ◌≡◌ {A = ℕ} 0 1 = cc in omega arith)
-fault_is v order rooms checked.Sound is (placed-reply.Blocked why b) e number values fault told =
+fault_is v order rooms (Ok _) is (Err (unplaced.Blocked why b)) e number values fault told =
     let (rows, i, out, thirteen, named) = blocked_is v (fitted v order) why b e in
     inr (
       sym (ap (λ (t : Told ℕ). t.0) told) ∙ ap number_of thirteen,

@@ -1,5 +1,6 @@
 -- First fit suffices for requests: some order is as good as any plan.
-use Rattle.std.specs.Prelude.{ℕ, ◌≤◌, List, [], ◌∷◌, ◌≡◌, length}
+use Rattle.refusal.specs.declared.Refusal.{Refusal}
+use Rattle.std.specs.Prelude.{ℕ, ◌≤◌, List, [], ◌∷◌, ◌≡◌, length, Result, Ok}
 use Rattle.std.proofs.Common.{sym, ap, subst, ◌∙◌, arith}
 use Rattle.theory.specs.Problem.{Problem, Fitted, fill, top}
 use Rattle.theory.specs.Orders.{listing}
@@ -8,8 +9,6 @@ use Rattle.theory.specs.inner.AsLow.{AsLow}
 use Rattle.theory.proofs.ByStartLaws.{by_start}
 use Rattle.theory.proofs.SufficesLaws.{first_fit_suffices}
 use Rattle.request.specs.declared.Request.{Request}
-use Rattle.request.specs.declared.Checked.{Checked}
-use Rattle.request.specs.declared.Checked.TheVariants as checked
 use Rattle.request.specs.View.{View, view}
 use Rattle.request.specs.Check.{check}
 use Rattle.request.specs.Sound.{SoundRequest}
@@ -26,7 +25,7 @@ use Rattle.placing.proofs.PromiseLaws.{start_is}
 use Rattle.placing.specs.Suffices.{OrderByStart, end_in, AsLowAs}
 
 -- a sound request's first fit in an order by a plan's starts, with room in both buffers, does as well as the plan
-pub suffices_promise : (q : Request) → Whole q → check (view q) ≡ checked.Sound → (plan : List ℕ) → AllowedPlan (view q) plan →
+pub suffices_promise : (q : Request) → Whole q → check (view q) ≡ Ok tt → (plan : List ℕ) → AllowedPlan (view q) plan →
     (order : List ℕ) → OrderByStart (view q) plan order → (starts blockers : List ℕ) → (view q).demand_count ≤ length starts →
     (view q).demand_count ≤ length blockers → AsLowAs (view q) plan order (length starts ∷ length blockers ∷ []) starts
 unfolding first_fit_reply fitted fitted_reply placed_after placed_told end_in
@@ -34,7 +33,7 @@ suffices_promise q whole passes plan allowed order by starts blockers room block
     record {
       end = top P (fill P [] order);
       not_refused =
-          ap (λ (c : Checked). placed_told (placed_after c (fitted_reply v (fitted v order)))) tested
+          ap (λ (c : Result Unit Refusal). placed_told (placed_after c (fitted_reply v (fitted v order)))) tested
           ∙ ap (λ (out : Fitted). placed_told (fitted_reply v out)) low.not_refused;
       none_higher =
           λ i h.
@@ -56,7 +55,7 @@ suffices_promise q whole passes plan allowed order by starts blockers room block
     rooms : List ℕ
     rooms = length starts ∷ length blockers ∷ []
 
-    tested : check_first_fit v order rooms ≡ checked.Sound
+    tested : check_first_fit v order rooms ≡ Ok tt
     tested = all_pass v passes order by.an_order (length starts) (length blockers) room blockers-room
 
     low : AsLow P v.band.slots [] (listing v.demand_count) (start_at plan) order

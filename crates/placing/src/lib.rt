@@ -10,18 +10,27 @@ use lent::{check_rooms, write_front};
 use meeting::compacted;
 use order::check_order;
 use refusal::Refusal;
-use request::{Checked, Request, check_request};
+use request::{Request, check_request};
 
 mod fit;
 mod order;
 
-// The end of the plan that was placed, or why there is none; where a demand has no start, with the listing position of who is in the way
-// at the last start that it could have.
+// Why no plan was placed: a refusal of what was given; or a demand has no start, beside the listing position of who is in the way at the
+// last start that it could have.
 #[derive(Drop)]
-pub enum PlacedReply {
-    Placed(u16),
+pub enum Unplaced {
     Refused(Refusal),
     Blocked(Refusal, u16),
+}
+
+impl From<Refusal> for Unplaced {
+    ghost use Rattle.placing.specs.declared.Unplaced.TheVariants.{Refused};
+
+    ghost from_gives = { λ why unplaced. unplaced ≡ Refused why };
+
+    fn from(why: Refusal) -> Unplaced {
+        Unplaced::Refused(why)
+    }
 }
 
 // First fit: the demands placed in this order, each at the lowest start that clashes with none before it. With a plan `starts` gets the
@@ -32,46 +41,32 @@ pub fn first_fit(
     order: &[u16],
     starts: &mut [u16],
     blockers: &mut [u16],
-) -> PlacedReply
+) -> Result<u16, Unplaced>
     ensures reply { result ≡ first_fit_reply (view request) order.now (length starts.old ∷ length blockers.old ∷ []) }
     ensures starts { starts.new ≡
         first_fit_starts (view request) order.now (length starts.old ∷ length blockers.old ∷ []) starts.old }
     ensures blockers { blockers.new ≡
         first_fit_blockers (view request) order.now (length starts.old ∷ length blockers.old ∷ []) blockers.old }
 {
-    let checked = check_first_fit(request, order, starts.len(), blockers.len());
-    if let Checked::Refused(why) = checked {
-        return PlacedReply::Refused(why);
-    }
-    let compact = compacted(request);
+    check_first_fit(request, order, starts.len(), blockers.len())?;
+    let plan = place_all(&compacted(request), order)?;
     let count = request.demand_count;
-    let mut at = [0u16; 200];
-    let mut by = [65535u16; 200];
-    let reply = place_all(compact, order, &mut at, &mut by);
-    match reply {
-        PlacedReply::Placed(end) => {
-            write_front(&at[..count], starts);
-            write_front(&by[..count], blockers);
-            PlacedReply::Placed(end)
-        }
-        PlacedReply::Refused(why) => PlacedReply::Refused(why),
-        PlacedReply::Blocked(why, blocker) => PlacedReply::Blocked(why, blocker),
-    }
+    write_front(&plan.starts[..count], starts);
+    write_front(&plan.blockers[..count], blockers);
+    Ok(plan.end)
 }
 
 // What is tested before anything is placed: the request, then 12, then 10 for the two buffers, by their rooms.
-fn check_first_fit(request: Request, order: &[u16], starts: usize, blockers: usize) -> Checked
+fn check_first_fit(
+    request: Request,
+    order: &[u16],
+    starts: usize,
+    blockers: usize,
+) -> Result<(), Refusal>
     ensures { result ≡ check_first_fit (view request) order.now (starts ∷ blockers ∷ []) }
 {
-    let checked = check_request(request);
-    if let Checked::Refused(why) = checked {
-        return Checked::Refused(why);
-    }
+    check_request(request)?;
     let count = request.demand_count;
-    let ordered = check_order(order, count);
-    if let Checked::Refused(why) = ordered {
-        return Checked::Refused(why);
-    }
-    let rooms = [starts, blockers];
-    check_rooms(count, &rooms)
+    check_order(order, count)?;
+    check_rooms(count, &[starts, blockers])
 }

@@ -1,5 +1,5 @@
 -- A plan is accepted exactly when it is allowed; one that ends at the bound is then the best there is.
-use Rattle.std.specs.Prelude.{ℕ, ◌≤◌, List, [], ◌∷◌, ◌≡◌, refl, length, get_or}
+use Rattle.std.specs.Prelude.{ℕ, ◌≤◌, List, [], ◌∷◌, ◌≡◌, refl, length, get_or, Result, Ok, Err}
 use mathlib.Core.List.Memᴰ
 use Rattle.std.proofs.Math.Path.{sym, ap}
 use Rattle.std.proofs.Common.{subst, ◌∙◌, arith}
@@ -9,8 +9,6 @@ use Rattle.refusal.specs.ToldLaws.{refusal_told_whole, refusal_told_fault}
 use Rattle.theory.specs.Problem.{Allowed}
 use Rattle.theory.specs.Orders.{listing}
 use Rattle.request.specs.declared.Request.{Request}
-use Rattle.request.specs.declared.Checked.{Checked}
-use Rattle.request.specs.declared.Checked.TheVariants.{Sound, Refused}
 use Rattle.request.specs.View.{View, view}
 use Rattle.request.specs.Sound.{SoundRequest}
 use Rattle.request.specs.Whole.{Whole, Counted}
@@ -21,50 +19,47 @@ use Rattle.meeting.specs.Bound.{bound_of}
 use Rattle.meeting.specs.Plan.{start_at, AllowedPlan, end_of_plan}
 use Rattle.meeting.specs.PlanLaws.{slots_to_ends, ends_to_slots}
 use Rattle.meeting.specs.BoundLaws.{plan_above_bound}
-use Rattle.placing.specs.declared.PlacedReply.TheVariants.{Placed}
 use Rattle.placing.specs.FirstFit.{check_first_fit, fitted, fitted_reply, first_fit_reply, first_fit_starts, placed_told}
 use Rattle.placing.proofs.FirstFitLaws.{placed_told_whole}
 use Rattle.placing.proofs.PromiseLaws.{end_given, request_sound, room_enough, first_fit_promise}
-use Rattle.plan.specs.declared.CheckReply.{CheckReply}
-use Rattle.plan.specs.declared.CheckReply.TheVariants.{Accepted, Refused as Rejected}
 use Rattle.plan.specs.CheckStarts.{check_starts, reply_with, starts_reply, accepted_told}
 use Rattle.plan.specs.CheckStartsLaws.{places_allowed, allowed_places, places_decide, each_passed}
 use Rattle.plan.specs.Acceptable.{Acceptable}
 
 -- an answer that accepts comes from a check that passes
-pub reply_passed : (x : Checked) (own end : ℕ) → reply_with x own ≡ Accepted end → (x ≡ Sound) × (own ≡ end)
+pub reply_passed : (x : Result Unit Refusal) (own end : ℕ) → reply_with x own ≡ Ok end → (x ≡ Ok tt) × (own ≡ end)
 unfolding reply_with
-reply_passed Sound own end h = (refl, cc)
-reply_passed (Refused why) own end h = absurd (let z : ◌≡◌ {A = ℕ} 0 1 = cc in omega arith)
+reply_passed (Ok _) own end h = (refl, cc)
+reply_passed (Err why) own end h = absurd (let z : ◌≡◌ {A = ℕ} 0 1 = cc in omega arith)
 
 -- an answer that refuses comes from a check that refuses for the same
-pub reply_refused : (x : Checked) (own : ℕ) (why : Refusal) → reply_with x own ≡ Rejected why → x ≡ Refused why
+pub reply_refused : (x : Result Unit Refusal) (own : ℕ) (why : Refusal) → reply_with x own ≡ Err why → x ≡ Err why
 unfolding reply_with
-reply_refused Sound own why h = absurd (let z : ◌≡◌ {A = ℕ} 0 1 = cc in omega arith)
-reply_refused (Refused own-why) own why h = cc
+reply_refused (Ok _) own why h = absurd (let z : ◌≡◌ {A = ℕ} 0 1 = cc in omega arith)
+reply_refused (Err own-why) own why h = cc
 
 module _ (v : View) (starts : List ℕ) where
   -- an accepted plan has passed the check
-  pub starts_passed : (end : ℕ) → starts_reply v starts ≡ Accepted end → check_starts v starts ≡ Sound
+  pub starts_passed : (end : ℕ) → starts_reply v starts ≡ Ok end → check_starts v starts ≡ Ok tt
   unfolding starts_reply
   starts_passed end h = (reply_passed (check_starts v starts) (end_of_plan v starts) end h).0
 
   -- a refused one is refused by the check for the same
-  pub starts_refused : (why : Refusal) → starts_reply v starts ≡ Rejected why → check_starts v starts ≡ Refused why
+  pub starts_refused : (why : Refusal) → starts_reply v starts ≡ Err why → check_starts v starts ≡ Err why
   unfolding starts_reply
   starts_refused why h = reply_refused (check_starts v starts) (end_of_plan v starts) why h
 
 -- two answers that are told alike are the same
-pub accepted_told_whole : (r r' : CheckReply) → accepted_told r ≡ accepted_told r' → r ≡ r'
+pub accepted_told_whole : (r r' : Result ℕ Refusal) → accepted_told r ≡ accepted_told r' → r ≡ r'
 unfolding accepted_told
-accepted_told_whole (Accepted e) (Accepted e') h = ap (λ (t : Told ℕ). Accepted (get_or t.1 0 0)) h
-accepted_told_whole (Accepted e) (Rejected why) h = absurd (refusal_told_fault why _ _ (sym h))
-accepted_told_whole (Rejected why) (Accepted e) h = absurd (refusal_told_fault why _ _ h)
-accepted_told_whole (Rejected why) (Rejected why') h = ap Rejected (refusal_told_whole why why' h)
+accepted_told_whole (Ok e) (Ok e') h = ap (λ (t : Told ℕ). Ok (get_or t.1 0 0)) h
+accepted_told_whole (Ok e) (Err why) h = absurd (refusal_told_fault why _ _ (sym h))
+accepted_told_whole (Err why) (Ok e) h = absurd (refusal_told_fault why _ _ h)
+accepted_told_whole (Err why) (Err why') h = ap Err (refusal_told_whole why why' h)
 
 module _ (v : View) (counted : Counted v) (starts : List ℕ) where
   -- an accepted plan is allowed, and the answer is its end
-  pub accepted_allowed : (end : ℕ) → starts_reply v starts ≡ Accepted end → Acceptable v starts × (end ≡ end_of_plan v starts)
+  pub accepted_allowed : (end : ℕ) → starts_reply v starts ≡ Ok end → Acceptable v starts × (end ≡ end_of_plan v starts)
   unfolding starts_reply
   accepted_allowed end h =
       let passed = reply_passed (check_starts v starts) (end_of_plan v starts) end h in
@@ -81,20 +76,20 @@ module _ (v : View) (counted : Counted v) (starts : List ℕ) where
   -- a plan allowed by its ends and starts is accepted with its end
   pub allowed_ends_accepted : SoundRequest v → v.demand_count ≤ length starts →
       Allowed (problem_of v) v.band.slots [] (listing v.demand_count) (start_at starts) →
-      starts_reply v starts ≡ Accepted (end_of_plan v starts)
+      starts_reply v starts ≡ Ok (end_of_plan v starts)
   unfolding starts_reply reply_with
   allowed_ends_accepted sound enough allowed =
-      ap (λ (x : Checked). reply_with x (end_of_plan v starts))
+      ap (λ (x : Result Unit Refusal). reply_with x (end_of_plan v starts))
       (places_decide v starts (sound_check v counted sound) enough ∙ allowed_places v starts (sound_limits v counted sound).demands_there allowed)
 
   -- an allowed plan is accepted with its end
-  pub allowed_accepted : Acceptable v starts → starts_reply v starts ≡ Accepted (end_of_plan v starts)
+  pub allowed_accepted : Acceptable v starts → starts_reply v starts ≡ Ok (end_of_plan v starts)
   allowed_accepted good =
       allowed_ends_accepted good.request_sound good.enough_starts
       (slots_to_ends v starts good.request_sound (sound_limits v counted good.request_sound).routes_there good.plan_allowed)
 
   -- the certificate: no allowed plan whatsoever ends below an accepted plan whose end is the bound
-  pub bound_certifies : starts_reply v starts ≡ Accepted (bound_of v) →
+  pub bound_certifies : starts_reply v starts ≡ Ok (bound_of v) →
       (others : List ℕ) → AllowedPlan v others → end_of_plan v starts ≤ end_of_plan v others
   bound_certifies h others allowed =
       let good = accepted_allowed (bound_of v) h in
@@ -109,7 +104,7 @@ module _ (r : Request) (whole : Whole r) (starts : List ℕ) where
       × (Acceptable (view r) starts → accepted_told (starts_reply (view r) starts) ≡ (0, end_of_plan (view r) starts ∷ []))
   unfolding accepted_told
   accepted_exactly = (
-    λ end h. accepted_allowed (view r) (whole_counted r whole) starts end (accepted_told_whole (starts_reply (view r) starts) (Accepted end) h),
+    λ end h. accepted_allowed (view r) (whole_counted r whole) starts end (accepted_told_whole (starts_reply (view r) starts) (Ok end) h),
     λ good. ap accepted_told (allowed_accepted (view r) (whole_counted r whole) starts good),
   )
 
@@ -119,7 +114,7 @@ module _ (r : Request) (whole : Whole r) (starts : List ℕ) where
   unfolding accepted_told
   best_at_the_bound h =
       bound_certifies (view r) (whole_counted r whole) starts
-      (accepted_told_whole (starts_reply (view r) starts) (Accepted (bound_of (view r))) h)
+      (accepted_told_whole (starts_reply (view r) starts) (Ok (bound_of (view r))) h)
 
 -- first fit's plan is accepted, with its end, whatever the two buffers held
 pub first_fit_accepted : (r : Request) → Whole r → (order starts blockers : List ℕ) (end : ℕ) →
@@ -131,7 +126,7 @@ first_fit_accepted r whole order starts blockers end h =
     let rooms : List ℕ = length starts ∷ length blockers ∷ [] in
     let tested =
     (end_given (check_first_fit v order rooms) (fitted_reply v (fitted v order)) end
-    (placed_told_whole (first_fit_reply v order rooms) (Placed end) h)).0 in
+    (placed_told_whole (first_fit_reply v order rooms) (Ok end) h)).0 in
     let plan = first_fit_promise r whole order starts blockers end h in
     ap accepted_told
     (allowed_accepted v (whole_counted r whole) (first_fit_starts v order rooms starts)
@@ -140,8 +135,8 @@ first_fit_accepted r whole order starts blockers end h =
       enough_starts = omega (arith, plan.starts_written.as_long, room_enough v order rooms tested (length starts) (Memᴰ.head refl));
       plan_allowed = plan.allowed;
     })
-    ∙ ap Accepted (sym plan.ends))
+    ∙ ap Ok (sym plan.ends))
 
 -- two results that meet the contract of `check_starts` are equal
-pub same_check : (v : View) (starts : List ℕ) (a a' : CheckReply) → a ≡ starts_reply v starts → a' ≡ starts_reply v starts → a ≡ a'
+pub same_check : (v : View) (starts : List ℕ) (a a' : Result ℕ Refusal) → a ≡ starts_reply v starts → a' ≡ starts_reply v starts → a ≡ a'
 same_check v starts a a' h k = h ∙ sym k

@@ -1,5 +1,5 @@
 -- The check of starts accepts exactly the allowed plans.
-use Rattle.std.specs.Prelude.{ℕ, zero, suc, ◌+◌, ◌-◌, ◌<◌, ◌≤◌, Bool, true, false, ◌≢◌, ◌≡◌, refl, length, ltb}
+use Rattle.std.specs.Prelude.{ℕ, zero, suc, ◌+◌, ◌-◌, ◌<◌, ◌≤◌, Bool, true, false, ◌≢◌, ◌≡◌, refl, length, ltb, Result, Ok, Err}
 use Rattle.std.proofs.Math.Bool.{cond}
 use mathlib.Core.List.{List, [], ◌∷◌}
 use Rattle.std.proofs.Common.{ap, ◌∙◌}
@@ -15,8 +15,6 @@ use Rattle.theory.proofs.ApartLaws.{apart_swap}
 use Rattle.theory.proofs.TestLaws.{by_test}
 use Rattle.theory.specs.Orders.{listing}
 use Rattle.theory.proofs.ListingLaws.{listing_below, listing_mem}
-use Rattle.request.specs.declared.Checked.{Checked}
-use Rattle.request.specs.declared.Checked.TheVariants.{Sound, Refused}
 use Rattle.request.specs.View.{DemandView, View, demand_at, width_of}
 use Rattle.request.specs.Check.{then, must, check}
 use Rattle.request.proofs.CheckLaws.{then_sound, then_refused, first_sound, next_sound, test_held}
@@ -27,19 +25,19 @@ use Rattle.meeting.specs.PlanLaws.{share_swap}
 use Rattle.plan.specs.CheckStarts.{check_count, check_end, check_ends, check_clash, check_clashes, check_places, check_starts}
 
 -- two checks that pass, pass one after the other
-pub both_sound : (a b : Checked) → a ≡ Sound → b ≡ Sound → then a b ≡ Sound
+pub both_sound : (a b : Result Unit Refusal) → a ≡ Ok tt → b ≡ Ok tt → then a b ≡ Ok tt
 both_sound a b h k = then_sound a b h ∙ k
 
 -- a check that refuses where a test is false passes where it is true
-pub passes_if : (t : Bool) (why : Refusal) → t ≡ true → cond t Sound (Refused why) ≡ Sound
+pub passes_if : (t : Bool) (why : Refusal) → t ≡ true → cond {A = Result Unit Refusal} t (Ok tt) (Err why) ≡ Ok tt
 passes_if t why h = rw h
 
 -- a check that refuses where a test is true passes where it is false
-pub passes_unless : (t : Bool) (why : Refusal) → t ≡ false → cond t (Refused why) Sound ≡ Sound
+pub passes_unless : (t : Bool) (why : Refusal) → t ≡ false → cond {A = Result Unit Refusal} t (Err why) (Ok tt) ≡ Ok tt
 passes_unless t why h = rw h
 
 -- 17 passes: each end is at most S
-pub ends_within : (S : ℕ) (starts : List ℕ) (k : ℕ) (demands : List DemandView) → check_ends S starts k demands ≡ Sound →
+pub ends_within : (S : ℕ) (starts : List ℕ) (k : ℕ) (demands : List DemandView) → check_ends S starts k demands ≡ Ok tt →
     (p : ℕ) → p < length demands → start_at starts (k + p) + width_of (demand_at demands p) ≤ S
 unfolding check_ends check_end demand_at
 ends_within S starts k [] h p l = absurd (omega arith)
@@ -53,14 +51,14 @@ ends_within S starts k (d ∷ demands) h (suc p) l =
     (ends_within S starts (k + 1) demands (next_sound (check_end S starts k d) (check_ends S starts (k + 1) demands) h) p (omega arith))
 
 -- the same from the first position on
-pub each_within : (S : ℕ) (starts : List ℕ) (demands : List DemandView) → check_ends S starts 0 demands ≡ Sound →
+pub each_within : (S : ℕ) (starts : List ℕ) (demands : List DemandView) → check_ends S starts 0 demands ≡ Ok tt →
     (p : ℕ) → p < length demands → start_at starts p + width_of (demand_at demands p) ≤ S
 each_within S starts demands h p l =
     subst (λ (n : ℕ). start_at starts n + width_of (demand_at demands p) ≤ S) (omega arith) (ends_within S starts 0 demands h p l)
 
 -- each end is at most S: 17 passes
 pub within_ends : (S : ℕ) (starts : List ℕ) (k : ℕ) (demands : List DemandView) →
-    ((p : ℕ) → p < length demands → start_at starts (k + p) + width_of (demand_at demands p) ≤ S) → check_ends S starts k demands ≡ Sound
+    ((p : ℕ) → p < length demands → start_at starts (k + p) + width_of (demand_at demands p) ≤ S) → check_ends S starts k demands ≡ Ok tt
 unfolding check_ends check_end must demand_at
 within_ends S starts k [] h = refl
 within_ends S starts k (d ∷ demands) h =
@@ -72,7 +70,7 @@ within_ends S starts k (d ∷ demands) h =
 
 -- 18 passes: each demand is clear of the rows, and apart from each later demand
 pub clashes_none : (P : Problem) (starts : List ℕ) (rows : List Row) (k : ℕ) (demands : List DemandView) →
-    check_clashes P starts rows k demands ≡ Sound → (p : ℕ) → p < length demands →
+    check_clashes P starts rows k demands ≡ Ok tt → (p : ℕ) → p < length demands →
     (fits P rows (k + p) (start_at starts (k + p)) ≡ true)
     × ((q : ℕ) → p < q → q < length demands → apart P (k + p) (start_at starts (k + p)) (k + q) (start_at starts (k + q)) ≡ true)
 unfolding check_clashes check_clash
@@ -103,7 +101,7 @@ clashes_none P starts rows k (d ∷ demands) h (suc p) l =
 pub none_clash : (P : Problem) (starts : List ℕ) (rows : List Row) (k : ℕ) (demands : List DemandView) →
     ((p : ℕ) → p < length demands → fits P rows (k + p) (start_at starts (k + p)) ≡ true) →
     ((p q : ℕ) → p < q → q < length demands → apart P (k + p) (start_at starts (k + p)) (k + q) (start_at starts (k + q)) ≡ true) →
-    check_clashes P starts rows k demands ≡ Sound
+    check_clashes P starts rows k demands ≡ Ok tt
 unfolding check_clashes check_clash
 none_clash P starts rows k [] clear apart-each = refl
 none_clash P starts rows k (d ∷ demands) clear apart-each =
@@ -122,20 +120,20 @@ none_clash P starts rows k (d ∷ demands) clear apart-each =
 
 module _ (v : View) (starts : List ℕ) where
   -- a refused request is refused for the same
-  pub request_refused_lem : (why : Refusal) → check v ≡ Refused why → check_starts v starts ≡ Refused why
+  pub request_refused_lem : (why : Refusal) → check v ≡ Err why → check_starts v starts ≡ Err why
   unfolding check_starts
   request_refused_lem why h = then_refused (check v) (then (check_count v.demand_count starts) (check_places v starts)) why h
 
   -- fewer starts than demands are refused with 16
-  pub count_refused : check v ≡ Sound → length starts < v.demand_count → check_starts v starts ≡ Refused (NoRow (length starts))
+  pub count_refused : check v ≡ Ok tt → length starts < v.demand_count → check_starts v starts ≡ Err (NoRow (length starts))
   unfolding check_starts check_count
   count_refused sound few =
       then_sound (check v) (then (check_count v.demand_count starts) (check_places v starts)) sound ∙
       then_refused (check_count v.demand_count starts) (check_places v starts) (NoRow (length starts))
-      (ap (λ (b : Bool). cond b (Refused (NoRow (length starts))) Sound) (lt-ltb (length starts) v.demand_count few))
+      (ap (λ (b : Bool). cond b (Err (NoRow (length starts))) (Ok tt)) (lt-ltb (length starts) v.demand_count few))
 
   -- then it is 17 and 18 that decide
-  pub places_decide : check v ≡ Sound → v.demand_count ≤ length starts → check_starts v starts ≡ check_places v starts
+  pub places_decide : check v ≡ Ok tt → v.demand_count ≤ length starts → check_starts v starts ≡ check_places v starts
   unfolding check_starts check_count
   places_decide sound enough =
       then_sound (check v) (then (check_count v.demand_count starts) (check_places v starts)) sound ∙
@@ -143,15 +141,15 @@ module _ (v : View) (starts : List ℕ) where
       (passes_unless (ltb (length starts) v.demand_count) (NoRow (length starts)) (le-ltb (length starts) v.demand_count enough))
 
   -- where 17 passes, 18 decides
-  pub clashes_decide : check_ends v.band.slots starts 0 v.demands ≡ Sound →
+  pub clashes_decide : check_ends v.band.slots starts 0 v.demands ≡ Ok tt →
       check_places v starts ≡ check_clashes (problem_of v) starts [] 0 v.demands
   unfolding check_places
   clashes_decide h =
       then_sound (check_ends v.band.slots starts 0 v.demands) (check_clashes (problem_of v) starts [] 0 v.demands) h
 
   -- where all pass, each has passed
-  pub each_passed : check_starts v starts ≡ Sound →
-      (check v ≡ Sound) × (v.demand_count ≤ length starts) × (check_ends v.band.slots starts 0 v.demands ≡ Sound) × (check_places v starts ≡ Sound)
+  pub each_passed : check_starts v starts ≡ Ok tt →
+      (check v ≡ Ok tt) × (v.demand_count ≤ length starts) × (check_ends v.band.slots starts 0 v.demands ≡ Ok tt) × (check_places v starts ≡ Ok tt)
   unfolding check_starts check_count check_places
   each_passed h =
       let ends = check_ends v.band.slots starts 0 v.demands in
@@ -167,7 +165,7 @@ module _ (v : View) (starts : List ℕ) where
 
 module _ (v : View) (starts : List ℕ) (counted : length v.demands ≡ v.demand_count) where
   -- 17 and 18 pass: the plan is allowed by its ends and starts
-  pub places_allowed : check_places v starts ≡ Sound →
+  pub places_allowed : check_places v starts ≡ Ok tt →
       Allowed (problem_of v) v.band.slots [] (listing v.demand_count) (start_at starts)
   unfolding check_places problem_of end_of
   places_allowed h =
@@ -196,7 +194,7 @@ module _ (v : View) (starts : List ℕ) (counted : length v.demands ≡ v.demand
 
   -- the plan is allowed by its ends and starts: 17 and 18 pass
   pub allowed_places : Allowed (problem_of v) v.band.slots [] (listing v.demand_count) (start_at starts) →
-      check_places v starts ≡ Sound
+      check_places v starts ≡ Ok tt
   unfolding check_places problem_of end_of
   allowed_places plan =
       both_sound (check_ends v.band.slots starts 0 v.demands) (check_clashes (problem_of v) starts [] 0 v.demands)

@@ -1,5 +1,5 @@
 -- The check by listing position, of a request made small, is the check of the request.
-use Rattle.std.specs.Prelude.{ℕ, suc, ◌+◌, ◌≤◌, ◌<◌, ◌≡◌, refl}
+use Rattle.std.specs.Prelude.{ℕ, suc, ◌+◌, ◌≤◌, ◌<◌, ◌≡◌, refl, Ok}
 use mathlib.Core.List.{List, [], ◌∷◌}
 use Rattle.std.proofs.Math.Path.{sym, ap, subst}
 use Rattle.std.proofs.Common.{ap₂, ◌∙◌, arith, add-one}
@@ -8,9 +8,12 @@ use Rattle.refusal.specs.declared.Refusal.TheVariants.{EndAbove}
 use Rattle.grid.specs.Grid.{end_within}
 use Rattle.theory.specs.Problem.{Problem, plan_end}
 use Rattle.theory.specs.Orders.{listing}
-use Rattle.request.specs.declared.Checked.TheVariants.{Sound}
-use Rattle.request.specs.View.{DemandView, View, demand_at, width_of}
-use Rattle.request.specs.Check.{then, must}
+use Rattle.request.specs.declared.Request.{Request}
+use Rattle.request.specs.View.{DemandView, View, view, demand_at, width_of}
+use Rattle.request.specs.Whole.{Whole}
+use Rattle.request.specs.Check.{check, then, must}
+use Rattle.request.proofs.SoundLaws.{check_sound, whole_counted}
+use Rattle.request.proofs.LimitsLaws.{checked_limits}
 use Rattle.request.proofs.CheckLaws.{first_sound}
 use Rattle.request.specs.Sound.{SoundRequest}
 use Rattle.request.specs.Sharing.{problem_of}
@@ -58,6 +61,10 @@ places_listed v starts counted =
     (λ p l. ap (λ (n : ℕ). width_of (demand_at v.demands n)) (let e : 0 + p ≡ p = omega arith in e)))
     (clashes_listed (problem_of v) starts 0 v.demands)
 
+-- what is known of a request that passes its test
+pub passed : (r : Request) → Whole r → check (view r) ≡ Ok tt → Limits (view r) × SoundRequest (view r)
+passed r full passes = (checked_limits r full passes, check_sound (view r) (whole_counted r full) passes)
+
 module _ (v : View) (sound : SoundRequest v) (limits : Limits v) (c : Compact) (is : c ≡ compact_of v) where
   -- a sound request made small keeps its limits
   pub small_kept : Small c
@@ -78,7 +85,7 @@ module _ (v : View) (sound : SoundRequest v) (limits : Limits v) (c : Compact) (
         ∙ places_listed v starts limits.demands_there
 
     -- where they pass, each demand ends within the band
-    pub small_within : check_places v starts ≡ Sound → EndsWithin (problem_in c) c.slots starts c.count
+    pub small_within : check_places v starts ≡ Ok tt → EndsWithin (problem_in c) c.slots starts c.count
     unfolding check_places compact_of problem_of
     small_within passed =
         subst (λ (d : Compact). EndsWithin (problem_in d) d.slots starts d.count) (sym is)

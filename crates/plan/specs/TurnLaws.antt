@@ -1,7 +1,8 @@
 -- The checks of starts and the plan's end, listing position by listing position.
+use Rattle.refusal.specs.declared.Refusal.{Refusal}
 use Prim.Native.Nat.{ℕ, suc, ◌+◌, ◌-◌, ◌≤◌, ◌<◌, max}
-use Rattle.std.specs.Prelude.{Bool, true, false, cond, ◌&&◌, List, [], ◌≡◌, get_or}
-use Rattle.std.proofs.Math.Path.{refl, ap, subst}
+use Rattle.std.specs.Prelude.{Bool, true, false, not, cond, ◌&&◌, List, [], ◌≡◌, get_or, Result, Ok, Err}
+use Rattle.std.proofs.Math.Path.{refl, sym, ap, subst}
 use Rattle.std.proofs.Common.{◌∙◌, ltb-true, lt-ltb, le-leb}
 use native.Mathlib.Omega.{arith}
 use Rattle.std.proofs.Math.Numerals.{add-one}
@@ -12,9 +13,7 @@ use Rattle.grid.specs.Grid.{end_within}
 use Rattle.theory.specs.Problem.{Problem, end_of, apart, fits, top, plan_end}
 use Rattle.theory.specs.Orders.{count_up}
 use Rattle.theory.proofs.ApartLaws.{clash_facts, clash_from}
-use Rattle.theory.proofs.TestLaws.{not_false_true, not_both, and_first, and_second, and_both}
-use Rattle.request.specs.declared.Checked.{Checked}
-use Rattle.request.specs.declared.Checked.TheVariants.{Sound, Refused}
+use Rattle.theory.proofs.TestLaws.{by_test, not_false_true, not_both, and_first, and_second, and_both}
 use Rattle.request.specs.Check.{then, must}
 use Rattle.meeting.specs.declared.Compact.{Compact}
 use Rattle.meeting.specs.Compact.{share_bit}
@@ -33,7 +32,7 @@ no_more n k h = omega arith
 
 module _ (P : Problem) (S : ℕ) (starts : List ℕ) (n k : ℕ) where
   -- what 17 says of a demand
-  abbrev ends_here : Bool → Checked
+  abbrev ends_here : Bool → Result Unit Refusal
   ends_here b = then (must b (EndAbove k)) (ends_from P S starts (k + 1) (n - (k + 1)))
 
   -- 17 from a position on: at the demand there, then behind it
@@ -47,19 +46,19 @@ module _ (P : Problem) (S : ℕ) (starts : List ℕ) (n k : ℕ) where
   end_passes h within = ends_turn h ∙ ap ends_here (le-leb (start_at starts k + P.width k) S within)
 
   -- an end above it is refused with 17
-  pub end_refused : k < n → S < start_at starts k + P.width k → ends_from P S starts k (n - k) ≡ Refused (EndAbove k)
+  pub end_refused : k < n → S < start_at starts k + P.width k → ends_from P S starts k (n - k) ≡ Err (EndAbove k)
   unfolding then must
   end_refused h above = ends_turn h ∙ ap ends_here (lt-leb (start_at starts k + P.width k) S above)
 
   -- behind the last demand all ends have passed
-  pub ends_done : n ≤ k → ends_from P S starts k (n - k) ≡ Sound
+  pub ends_done : n ≤ k → ends_from P S starts k (n - k) ≡ Ok tt
   unfolding ends_from
   ends_done h = ap (ends_from P S starts k) (no_more n k h)
 
 module _ (P : Problem) (starts : List ℕ) (n k : ℕ) where
   -- what 18 says of a demand
-  abbrev clear_here : Bool → Checked
-  clear_here b = then (cond b Sound (Refused (Clash k))) (clashes_from P starts (k + 1) (n - (k + 1)))
+  abbrev clear_here : Bool → Result Unit Refusal
+  clear_here b = then (cond b (Ok tt) (Err (Clash k))) (clashes_from P starts (k + 1) (n - (k + 1)))
 
   -- 18 from a position on: at the demand there, then behind it
   clashes_turn : k < n → clashes_from P starts k (n - k) ≡ clear_here (fits P (rows_before starts k) k (start_at starts k))
@@ -74,12 +73,12 @@ module _ (P : Problem) (starts : List ℕ) (n k : ℕ) where
 
   -- a demand that clashes with one before it is refused with 18
   pub clash_refused : k < n → fits P (rows_before starts k) k (start_at starts k) ≡ false →
-      clashes_from P starts k (n - k) ≡ Refused (Clash k)
+      clashes_from P starts k (n - k) ≡ Err (Clash k)
   unfolding then
   clash_refused h clash = clashes_turn h ∙ ap clear_here clash
 
   -- behind the last demand none has clashed
-  pub clashes_done : n ≤ k → clashes_from P starts k (n - k) ≡ Sound
+  pub clashes_done : n ≤ k → clashes_from P starts k (n - k) ≡ Ok tt
   unfolding clashes_from
   clashes_done h = ap (clashes_from P starts k) (no_more n k h)
 
@@ -146,3 +145,10 @@ module _ (c : Compact) (i s j t : ℕ) where
       let facts = clash_facts (problem_in c) i s j t clash in
       not_both {C = ⊥} ((ltb t end && ltb s other) && share)
       (and_both (ltb t end && ltb s other) share (and_both (ltb t end) (ltb s other) (lt-ltb t end facts.1) (lt-ltb s other facts.2)) facts.0) h)
+
+  -- so that is when they clash
+  pub clash_is : (too_close c.guard s (get_or c.widths i 0) t (get_or c.widths j 0) && share) ≡ not (apart (problem_in c) i s j t)
+  clash_is =
+      by_test (too_close c.guard s (get_or c.widths i 0) t (get_or c.widths j 0) && share)
+      (λ close. close ∙ sym (ap not (close_clash close)))
+      (λ clear. clear ∙ sym (ap not (not_close_apart clear)))

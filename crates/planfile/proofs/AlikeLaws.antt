@@ -1,5 +1,6 @@
 -- Only the starts of the demands matter: starts that are the same for each demand are accepted, end and are written alike.
-use Rattle.std.specs.Prelude.{ℕ, ◌≤◌, ◌<◌, ◌≡◌, length, take}
+use Rattle.refusal.specs.declared.Refusal.{Refusal}
+use Rattle.std.specs.Prelude.{ℕ, ◌≤◌, ◌<◌, ◌≡◌, length, take, Result, Ok}
 use mathlib.Core.List.{List, [], ◌∷◌, ◌++◌, Memᴰ}
 use Rattle.std.proofs.Math.Path.{refl, ap, ap₂}
 use Rattle.std.proofs.Common.{sym, ◌∙◌, arith, get_or-take}
@@ -8,12 +9,9 @@ use Rattle.theory.proofs.AlikeLaws.{plan_end_alike, allowed_alike}
 use Rattle.theory.proofs.ListingLaws.{listing_below}
 use Rattle.theory.specs.Orders.{listing}
 use Rattle.request.specs.View.{View, demand_at}
-use Rattle.request.specs.declared.Checked.{Checked}
-use Rattle.request.specs.declared.Checked.TheVariants.{Sound}
 use Rattle.request.specs.Sharing.{problem_of}
 use Rattle.meeting.specs.Plan.{start_at, end_of_plan}
 use Rattle.meeting.specs.PlanEndLaws.{plan_end_is}
-use Rattle.plan.specs.declared.CheckReply.TheVariants.{Accepted}
 use Rattle.plan.specs.AcceptableLaws.{reply_passed}
 use Rattle.plan.specs.CheckStarts.{check_starts, reply_with, starts_reply}
 use Rattle.plan.specs.CheckStartsLaws.{places_allowed, allowed_places, places_decide, each_passed}
@@ -26,7 +24,7 @@ module _ (v : View) (counted : length v.demands ≡ v.demand_count) (a b : List 
   listed_same k m = same k (listing_below v.demand_count k m)
 
   -- they are accepted alike
-  pub checked_alike : v.demand_count ≤ length b → check_starts v a ≡ Sound → check_starts v b ≡ Sound
+  pub checked_alike : v.demand_count ≤ length b → check_starts v a ≡ Ok tt → check_starts v b ≡ Ok tt
   checked_alike enough h =
       let each = each_passed v a h in
       places_decide v b each.0 enough
@@ -40,11 +38,11 @@ module _ (v : View) (counted : length v.demands ≡ v.demand_count) (a b : List 
       ∙ (plan_end_alike (problem_of v) (start_at a) (start_at b) [] (listing v.demand_count) listed_same ∙ sym (plan_end_is v b counted))
 
   -- they are answered alike
-  pub reply_alike : (end : ℕ) → v.demand_count ≤ length b → starts_reply v a ≡ Accepted end → starts_reply v b ≡ Accepted end
+  pub reply_alike : (end : ℕ) → v.demand_count ≤ length b → starts_reply v a ≡ Ok end → starts_reply v b ≡ Ok end
   unfolding starts_reply reply_with
   reply_alike end enough h =
       let passed = reply_passed (check_starts v a) (end_of_plan v a) end h in
-      ap (λ (x : Checked). reply_with x (end_of_plan v b)) (checked_alike enough passed.0) ∙ ap Accepted (sym end_alike ∙ passed.1)
+      ap (λ (x : Result Unit Refusal). reply_with x (end_of_plan v b)) (checked_alike enough passed.0) ∙ ap Ok (sym end_alike ∙ passed.1)
 
   -- and their rows are the same
   pub rows_alike : (order : List ℕ) → ((k : ℕ) → Memᴰ k order → k < v.demand_count) → rows_in_order v a order ≡ rows_in_order v b order

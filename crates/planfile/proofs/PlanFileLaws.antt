@@ -1,13 +1,10 @@
 -- A plan's file, row by row, as it is written.
-use Rattle.std.specs.Prelude.{ℕ, suc, ◌+◌, ◌*◌, ◌/◌, ◌%◌, ◌≤◌, ◌<◌, List, [], ◌∷◌, ◌++◌, ◌≡◌, refl, drop, set}
+use Rattle.std.specs.Prelude.{ℕ, suc, ◌+◌, ◌*◌, ◌/◌, ◌%◌, ◌≤◌, ◌<◌, List, [], ◌∷◌, ◌++◌, ◌≡◌, refl, drop, set, Result, Ok, Err}
 use Rattle.std.proofs.Common.{sym, ◌∙◌, arith, add-one, length-append, drop_of_length-le, drop-cons}
 use Rattle.std.proofs.Math.Path.{ap}
 use Rattle.std.proofs.Math.ListN.{length}
 use Rattle.std.proofs.lemmas.List.Edits.{sets}
 use Rattle.refusal.specs.declared.Refusal.{Refusal}
-use Rattle.request.specs.declared.Checked.TheVariants.{Sound, Refused}
-use Rattle.request.specs.declared.Written.{Written}
-use Rattle.request.specs.declared.Written.TheVariants.{Wrote, Refused as Unwritten}
 use Rattle.request.specs.View.{DemandView, View, demand_at, no_demand}
 use Rattle.request.specs.Encoding.{two_bytes, field}
 use Rattle.lent.specs.Lent.{check_room, filled}
@@ -64,42 +61,42 @@ row_stored out at ident start a b c d ha hb hc hd =
 
 module _ (v : View) (starts out : List ℕ) where
   -- a plan that the check refuses is refused for the same
-  pub plan_unwritten : (why : Refusal) → check_starts v starts ≡ Refused why → plan_written v starts out ≡ Unwritten why
+  pub plan_unwritten : (why : Refusal) → check_starts v starts ≡ Err why → plan_written v starts out ≡ Err why
   unfolding plan_written
   plan_unwritten why h = write_fault (check_starts v starts) (length (encode_plan v starts)) (length out) why h
 
   -- a buffer too short for the file is refused with 10
-  pub plan_short : (why : Refusal) → check_starts v starts ≡ Sound → check_room (length (encode_plan v starts)) (length out) ≡ Refused why →
-      plan_written v starts out ≡ Unwritten why
+  pub plan_short : (why : Refusal) → check_starts v starts ≡ Ok tt → check_room (length (encode_plan v starts)) (length out) ≡ Err why →
+      plan_written v starts out ≡ Err why
   unfolding plan_written
   plan_short why h short = write_short (check_starts v starts) (length (encode_plan v starts)) (length out) why h short
 
   -- else the file is written
-  pub plan_wrote : check_starts v starts ≡ Sound → length (encode_plan v starts) ≤ length out →
-      plan_written v starts out ≡ Wrote (length (encode_plan v starts))
+  pub plan_wrote : check_starts v starts ≡ Ok tt → length (encode_plan v starts) ≤ length out →
+      plan_written v starts out ≡ Ok (length (encode_plan v starts))
   unfolding plan_written
   plan_wrote h room =
       let needed = length (encode_plan v starts) in
       write_fits (check_starts v starts) needed (length out) h (sym (room_enough needed (length out) room))
 
   -- what an answer of bytes says: the check accepts, they are the file's, and there was room
-  pub plan_wrote_says : (bytes : ℕ) → plan_written v starts out ≡ Wrote bytes →
-      (check_starts v starts ≡ Sound) × (bytes ≡ length (encode_plan v starts)) × (length (encode_plan v starts) ≤ length out)
+  pub plan_wrote_says : (bytes : ℕ) → plan_written v starts out ≡ Ok bytes →
+      (check_starts v starts ≡ Ok tt) × (bytes ≡ length (encode_plan v starts)) × (length (encode_plan v starts) ≤ length out)
   unfolding plan_written
   plan_wrote_says bytes h = write_says (check_starts v starts) (length (encode_plan v starts)) (length out) bytes h
 
   -- a refusal leaves the buffer as it was
-  pub out_unwritten : (why : Refusal) → plan_written v starts out ≡ Unwritten why → plan_out v starts out ≡ out
+  pub out_unwritten : (why : Refusal) → plan_written v starts out ≡ Err why → plan_out v starts out ≡ out
   unfolding plan_out filled
-  out_unwritten why h = ap (λ (x : Written). filled x (encode_plan v starts) out) h
+  out_unwritten why h = ap (λ (x : Result ℕ Refusal). filled x (encode_plan v starts) out) h
 
   -- a written file stands at the front of the buffer, and the rest is as it was
-  pub out_wrote : (bytes : ℕ) → plan_written v starts out ≡ Wrote bytes → plan_out v starts out ≡ encode_plan v starts ++ drop bytes out
+  pub out_wrote : (bytes : ℕ) → plan_written v starts out ≡ Ok bytes → plan_out v starts out ≡ encode_plan v starts ++ drop bytes out
   unfolding plan_out filled
-  out_wrote bytes h = ap (λ (x : Written). filled x (encode_plan v starts) out) h
+  out_wrote bytes h = ap (λ (x : Result ℕ Refusal). filled x (encode_plan v starts) out) h
 
 -- two results that meet the contract of `write_plan` are equal, and leave the same in the buffer
-pub same_write : (v : View) (starts out : List ℕ) (a a' : Written) (b b' : List ℕ) →
+pub same_write : (v : View) (starts out : List ℕ) (a a' : Result ℕ Refusal) (b b' : List ℕ) →
     a ≡ plan_written v starts out → b ≡ plan_out v starts out → a' ≡ plan_written v starts out → b' ≡ plan_out v starts out →
     (a ≡ a') × (b ≡ b')
 same_write v starts out a a' b b' h k h' k' = (h ∙ sym h', k ∙ sym k')

@@ -1,5 +1,5 @@
 -- Reading a plan step by step: positions of idents, the checks of a row fault by fault, the rows one by one, the whole file.
-use Rattle.std.specs.Prelude.{ℕ, suc, ◌+◌, ◌≤◌, ◌<◌, Bool, true, List, [], ◌∷◌, ◌≡◌, length, drop, get_or, leb, eqb}
+use Rattle.std.specs.Prelude.{ℕ, suc, ◌+◌, ◌≤◌, ◌<◌, Bool, true, List, [], ◌∷◌, ◌≡◌, length, drop, get_or, leb, eqb, Result, Ok, Err}
 use Rattle.std.proofs.Math.Bool.{false, cond}
 use Rattle.std.proofs.Math.Path.{ap}
 use Rattle.std.proofs.Common.{◌∙◌, drop_of_length-le, drop-cons}
@@ -9,8 +9,6 @@ use borrow.Author.Tests.{lt-ltb, le-ltb, le-leb, lt-leb, eq-eqb, ne_eqb}
 use Rattle.refusal.specs.declared.Refusal.{Refusal}
 use Rattle.refusal.specs.declared.Refusal.TheVariants.{UnknownIdent, IdentSeen, NoRow, EndAbove, FileTooLong}
 use Rattle.theory.specs.Problem.{Row}
-use Rattle.request.specs.declared.Checked.{Checked}
-use Rattle.request.specs.declared.Checked.TheVariants.{Sound, Refused}
 use Rattle.request.specs.View.{View, demand_at, width_of}
 use Rattle.request.specs.Check.{then, check, must}
 use Rattle.request.proofs.CheckLaws.{then_sound, then_refused}
@@ -54,53 +52,53 @@ module _ (l : List Bool) (k : ℕ) where
   unfolding must
   given_passes h e =
       given_turn h ∙ then_sound (must (get_or l k false) (NoRow k)) (check_given (k + 1) (drop (k + 1) l))
-      (ap (λ (b : Bool). cond b Sound (Refused (NoRow k))) e)
+      (ap (λ (b : Bool). cond b (Ok tt) (Err (NoRow k))) e)
 
   -- one without is refused
-  pub given_refused : k < length l → get_or l k false ≡ false → check_given k (drop k l) ≡ Refused (NoRow k)
+  pub given_refused : k < length l → get_or l k false ≡ false → check_given k (drop k l) ≡ Err (NoRow k)
   unfolding must
   given_refused h e =
       given_turn h ∙ then_refused (must (get_or l k false) (NoRow k)) (check_given (k + 1) (drop (k + 1) l)) (NoRow k)
-      (ap (λ (b : Bool). cond b Sound (Refused (NoRow k))) e)
+      (ap (λ (b : Bool). cond b (Ok tt) (Err (NoRow k))) e)
 
   -- behind the last position all have passed
-  pub given_done : length l ≤ k → check_given k (drop k l) ≡ Sound
+  pub given_done : length l ≤ k → check_given k (drop k l) ≡ Ok tt
   unfolding check_given
   given_done h = rw (drop_of_length-le l h)
 
 module _ (v : View) (at : ℕ) (rows : List Row) (r : Row) where
   -- 14: a row of no demand
-  pub row_unknown : length v.demands ≤ r.who → check_new_row v at rows r ≡ Refused (UnknownIdent at)
+  pub row_unknown : length v.demands ≤ r.who → check_new_row v at rows r ≡ Err (UnknownIdent at)
   unfolding check_new_row then must
   row_unknown h = rw (le-ltb r.who (length v.demands) h)
 
   -- 15: a second row of a demand
-  pub row_seen : r.who < length v.demands → given rows r.who ≡ true → check_new_row v at rows r ≡ Refused (IdentSeen at)
+  pub row_seen : r.who < length v.demands → given rows r.who ≡ true → check_new_row v at rows r ≡ Err (IdentSeen at)
   unfolding check_new_row then must
   row_seen h seen = rw (lt-ltb r.who (length v.demands) h, seen)
 
   -- 17: an end above the slot count
   pub row_above : r.who < length v.demands → given rows r.who ≡ false →
-      v.band.slots < r.at + width_of (demand_at v.demands r.who) → check_new_row v at rows r ≡ Refused (EndAbove at)
+      v.band.slots < r.at + width_of (demand_at v.demands r.who) → check_new_row v at rows r ≡ Err (EndAbove at)
   unfolding check_new_row then must
   row_above h new above =
       rw (lt-ltb r.who (length v.demands) h, new, lt-leb (r.at + width_of (demand_at v.demands r.who)) v.band.slots above)
 
   -- a row with none of these faults is sound
   pub row_sound : r.who < length v.demands → given rows r.who ≡ false →
-      r.at + width_of (demand_at v.demands r.who) ≤ v.band.slots → check_new_row v at rows r ≡ Sound
+      r.at + width_of (demand_at v.demands r.who) ≤ v.band.slots → check_new_row v at rows r ≡ Ok tt
   unfolding check_new_row then must
   row_sound h new within =
       rw (lt-ltb r.who (length v.demands) h, new, le-leb (r.at + width_of (demand_at v.demands r.who)) v.band.slots within)
 
 module _ (v : View) (s : List ℕ) (at : ℕ) (rows : List Row) where
   -- a field that is refused is refused for the same as a row
-  pub field_refuses : (why : Refusal) → check_field s at 4 4 4 ≡ Refused why → check_row v s at rows ≡ Refused why
+  pub field_refuses : (why : Refusal) → check_field s at 4 4 4 ≡ Err why → check_row v s at rows ≡ Err why
   unfolding check_row
   field_refuses why h = then_refused (check_field s at 4 4 4) (check_new_row v at rows (row_in v s at)) why h
 
   -- of a sound field the row decides
-  pub row_decides : check_field s at 4 4 4 ≡ Sound → check_row v s at rows ≡ check_new_row v at rows (row_in v s at)
+  pub row_decides : check_field s at 4 4 4 ≡ Ok tt → check_row v s at rows ≡ check_new_row v at rows (row_in v s at)
   unfolding check_row
   row_decides h = then_sound (check_field s at 4 4 4) (check_new_row v at rows (row_in v s at)) h
 
@@ -111,39 +109,39 @@ module _ (v : View) (s : List ℕ) (at : ℕ) (rows : List Row) where
     rows_end e = rw (eq-eqb at (length s) e)
 
     -- a row that is refused ends the reading
-    pub rows_refuse : (why : Refusal) → (at ≡ length s → ⊥) → check_row v s at rows ≡ Refused why → read_rows (suc left) v s at rows ≡ rows_refused why
+    pub rows_refuse : (why : Refusal) → (at ≡ length s → ⊥) → check_row v s at rows ≡ Err why → read_rows (suc left) v s at rows ≡ rows_refused why
     unfolding read_rows next_rows
     rows_refuse why more h = rw (ne_eqb at (length s) more, h)
 
     -- a sound row is followed by the next
-    pub rows_more : (at ≡ length s → ⊥) → check_row v s at rows ≡ Sound →
+    pub rows_more : (at ≡ length s → ⊥) → check_row v s at rows ≡ Ok tt →
         read_rows (suc left) v s at rows ≡ read_rows left v s (field_end s at) (row_in v s at ∷ rows)
     unfolding read_rows next_rows
     rows_more more h = rw (ne_eqb at (length s) more, h)
 
 module _ (v : View) (s : List ℕ) (room : ℕ) where
   -- a refused request is refused for the same
-  pub plan_request_refused : (why : Refusal) → check v ≡ Refused why → read_plan_file v s room ≡ refused why
+  pub plan_request_refused : (why : Refusal) → check v ≡ Err why → read_plan_file v s room ≡ refused why
   unfolding read_plan_file with_file
   plan_request_refused why h =
-      ap (λ (x : Checked). with_file v s room x) (then_refused (check v) (must (leb (length s) 1400) (FileTooLong 1400)) why h)
+      ap (λ (x : Result Unit Refusal). with_file v s room x) (then_refused (check v) (must (leb (length s) 1400) (FileTooLong 1400)) why h)
 
   -- 20: a file of more than 1400 bytes
-  pub plan_too_long : check v ≡ Sound → 1400 < length s → read_plan_file v s room ≡ refused (FileTooLong 1400)
+  pub plan_too_long : check v ≡ Ok tt → 1400 < length s → read_plan_file v s room ≡ refused (FileTooLong 1400)
   unfolding read_plan_file with_file must
   plan_too_long sound long =
-      ap (λ (x : Checked). with_file v s room x)
+      ap (λ (x : Result Unit Refusal). with_file v s room x)
       (then_sound (check v) (must (leb (length s) 1400) (FileTooLong 1400)) sound
-      ∙ ap (λ (b : Bool). cond b Sound (Refused (FileTooLong 1400))) (lt-leb (length s) 1400 long))
+      ∙ ap (λ (b : Bool). cond b (Ok tt) (Err (FileTooLong 1400))) (lt-leb (length s) 1400 long))
 
-  module _ (sound : check v ≡ Sound) (short : length s ≤ 1400) where
+  module _ (sound : check v ≡ Ok tt) (short : length s ≤ 1400) where
     -- else the rows are read
     plan_rows : read_plan_file v s room ≡ with_rows v room (read_rows 201 v s 0 [])
     unfolding read_plan_file with_file must
     plan_rows =
-        ap (λ (x : Checked). with_file v s room x)
+        ap (λ (x : Result Unit Refusal). with_file v s room x)
         (then_sound (check v) (must (leb (length s) 1400) (FileTooLong 1400)) sound
-        ∙ ap (λ (b : Bool). cond b Sound (Refused (FileTooLong 1400))) (le-leb (length s) 1400 short))
+        ∙ ap (λ (b : Bool). cond b (Ok tt) (Err (FileTooLong 1400))) (le-leb (length s) 1400 short))
 
     -- a row that is refused
     pub plan_row_refused : (why : Refusal) → read_rows 201 v s 0 [] ≡ rows_refused why → read_plan_file v s room ≡ refused why
@@ -157,6 +155,6 @@ module _ (v : View) (s : List ℕ) (room : ℕ) where
       plan_read = plan_rows ∙ ap (λ (x : RowsRead). with_rows v room x) read
 
       -- where they pass, the plan is accepted
-      pub plan_accepted : check_rows v room rows ≡ Sound → read_plan_file v s room ≡ accepted (starts_of v.demand_count rows)
+      pub plan_accepted : check_rows v room rows ≡ Ok tt → read_plan_file v s room ≡ accepted (starts_of v.demand_count rows)
       unfolding if_checked
-      plan_accepted passed = plan_read ∙ ap (λ (x : Checked). if_checked x (starts_of v.demand_count rows)) passed
+      plan_accepted passed = plan_read ∙ ap (λ (x : Result Unit Refusal). if_checked x (starts_of v.demand_count rows)) passed

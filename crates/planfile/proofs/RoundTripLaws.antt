@@ -1,5 +1,5 @@
 -- Plans and files: reading accepts exactly the rows of accepted starts, in any order, and what goes there and back is the same.
-use Rattle.std.specs.Prelude.{ℕ, ◌≤◌, ◌<◌, ◌≡◌, leb}
+use Rattle.std.specs.Prelude.{ℕ, ◌≤◌, ◌<◌, ◌≡◌, leb, Result, Ok, Err}
 use mathlib.Core.Bool.{Bool, true, false}
 use mathlib.Core.List.{List, [], ◌++◌}
 use Rattle.std.proofs.Common.{⊎_elim, subst, ◌∙◌, arith, get_or-take, take_at, take_all}
@@ -22,10 +22,7 @@ use Rattle.request.specs.Sound.{SoundRequest}
 use Rattle.request.proofs.SoundLaws.{check_sound, whole_counted}
 use Rattle.request.specs.View.{View, view}
 use Rattle.request.specs.Whole.{Whole, Counted}
-use Rattle.request.specs.declared.Checked.{Checked}
-use Rattle.request.specs.declared.Checked.TheVariants.{Sound, Refused}
 use Rattle.request.specs.declared.Request.{Request}
-use Rattle.request.specs.declared.Written.TheVariants.{Wrote}
 use Rattle.meeting.specs.MeetingLaws.{listing_at, start_listed, starts_long}
 use Rattle.lent.specs.Lent.{check_room, over}
 use Rattle.lent.specs.LentLaws.{room_enough, room_held}
@@ -44,15 +41,14 @@ use Rattle.planfile.proofs.PlanRowsLaws.{given_all, each_given, rows_ends, accep
 use Rattle.planfile.specs.RoundTrip.{rows_in_order, InListingOrder, PlanAccepted}
 use Rattle.planfile.proofs.RowsBackLaws.{rows_back}
 use Rattle.planfile.proofs.RowsEncodedLaws.{arrange_same, rows_encoded}
-use Rattle.plan.specs.declared.CheckReply.TheVariants.{Accepted}
 
 -- accepted starts pass 18
-clashes_pass : (v : View) (starts : List ℕ) → check_starts v starts ≡ Sound → check_clashes (problem_of v) starts [] 0 v.demands ≡ Sound
+clashes_pass : (v : View) (starts : List ℕ) → check_starts v starts ≡ Ok tt → check_clashes (problem_of v) starts [] 0 v.demands ≡ Ok tt
 unfolding check_places
 clashes_pass v starts h =
     next_sound (check_ends v.band.slots starts 0 v.demands) (check_clashes (problem_of v) starts [] 0 v.demands) (each_passed v starts h).3
 
-module _ (v : View) (sized : Counted v) (named : Idents16 v) (starts : List ℕ) (checked : check_starts v starts ≡ Sound) where
+module _ (v : View) (sized : Counted v) (named : Idents16 v) (starts : List ℕ) (checked : check_starts v starts ≡ Ok tt) where
   -- the request is sound, and its numbers are within their limits
   sound_is : SoundRequest v
   sound_is = check_sound v sized (each_passed v starts checked).0
@@ -85,24 +81,24 @@ module _ (v : View) (sized : Counted v) (named : Idents16 v) (starts : List ℕ)
       let low : i < K = omega (arith, made_length (start_in rows) K) in
       listing_at (start_in rows) K i 0 low
       ∙ (back.starts_kept (λ k none. absurd (mathlib.Core.Bool.false≢true none)) i (has i low) ∙ sym (get_or-take K starts i 0 low))) in
-      let none-missing : check_given 0 (given_to K rows) ≡ Sound =
+      let none-missing : check_given 0 (given_to K rows) ≡ Ok tt =
       each_given 0 (given_to K rows)
       (λ p l. let low : p < K = omega (arith, made_length (given rows) K) in listing_at (given rows) K p false low ∙ has p low) in
-      let clear : check_clashes (problem_of v) (starts_of K rows) [] 0 v.demands ≡ Sound =
+      let clear : check_clashes (problem_of v) (starts_of K rows) [] 0 v.demands ≡ Ok tt =
       ap (λ (l : List ℕ). check_clashes (problem_of v) l [] 0 v.demands) same
       ∙ clashes_pass v (take K starts) (checked_alike v there starts (take K starts) (front_alike v starts) (omega arith) checked) in
       plan_accepted v s room each.0 (omega arith) rows back.read
       (both_sound _ _ none-missing (both_sound _ _ clear (sym (room_enough K room enough)))) ∙ ap accepted same
 
 -- an acceptance after a check comes from one that passes
-passed_with : (x : Checked) (own starts : List ℕ) → if_checked x own ≡ accepted starts → (x ≡ Sound) × (own ≡ starts)
+passed_with : (x : Result Unit Refusal) (own starts : List ℕ) → if_checked x own ≡ accepted starts → (x ≡ Ok tt) × (own ≡ starts)
 unfolding if_checked
-passed_with Sound own starts e = (refl, cc)
-passed_with (Refused why) own starts e = absurd (let z : ◌≡◌ {A = ℕ} 0 1 = cc in omega arith)
+passed_with (Ok _) own starts e = (refl, cc)
+passed_with (Err why) own starts e = absurd (let z : ◌≡◌ {A = ℕ} 0 1 = cc in omega arith)
 
 -- where the rows' reading makes a plan, they were read, and 16, 18 and 10 have passed
 rows_were_read : (v : View) (room : ℕ) (x : RowsRead) (starts : List ℕ) → with_rows v room x ≡ accepted starts →
-    (rows : List Row) × (x ≡ rows_read rows) × (check_rows v room rows ≡ Sound) × (starts_of v.demand_count rows ≡ starts)
+    (rows : List Row) × (x ≡ rows_read rows) × (check_rows v room rows ≡ Ok tt) × (starts_of v.demand_count rows ≡ starts)
 unfolding with_rows
 rows_were_read v room (rows_refused why) starts e = absurd (let z : ◌≡◌ {A = ℕ} 0 1 = cc in omega arith)
 rows_were_read v room (rows_read rows) starts e =
@@ -110,8 +106,8 @@ rows_were_read v room (rows_read rows) starts e =
     (rows, refl, passed.0, passed.1)
 
 -- rows that were read and have passed are the rows of accepted starts
-rows_accepted : (v : View) → Counted v → (s : List ℕ) → Bytes s → (room : ℕ) (rows : List Row) → check v ≡ Sound →
-    read_rows 201 v s 0 [] ≡ rows_read rows → check_rows v room rows ≡ Sound → PlanAccepted v s room (starts_of v.demand_count rows)
+rows_accepted : (v : View) → Counted v → (s : List ℕ) → Bytes s → (room : ℕ) (rows : List Row) → check v ≡ Ok tt →
+    read_rows 201 v s 0 [] ≡ rows_read rows → check_rows v room rows ≡ Ok tt → PlanAccepted v s room (starts_of v.demand_count rows)
 unfolding check_rows given
 rows_accepted v sized s bytes room rows sound read passed =
     let K = v.demand_count in
@@ -120,8 +116,8 @@ rows_accepted v sized s bytes room rows sound read passed =
     let all : length starts ≡ K = starts_long K rows in
     let clear = check_clashes (problem_of v) starts [] 0 v.demands in
     let last = check_room K room in
-    let none-missing : check_given 0 (given_to K rows) ≡ Sound = first_sound (check_given 0 (given_to K rows)) (then clear last) passed in
-    let later : then clear last ≡ Sound = next_sound (check_given 0 (given_to K rows)) (then clear last) passed in
+    let none-missing : check_given 0 (given_to K rows) ≡ Ok tt = first_sound (check_given 0 (given_to K rows)) (then clear last) passed in
+    let later : then clear last ≡ Ok tt = next_sound (check_given 0 (given_to K rows)) (then clear last) passed in
     let ends = rows_ends v s rows there read none-missing in
     let encoded = rows_encoded v there s bytes rows starts (λ k h. start_listed K rows k h) 201 0 [] (omega arith) read in
     record {
@@ -149,11 +145,11 @@ unfolding read_plan_file with_file
 accepted_rows v sized s bytes room starts e =
     let limit = must (leb (length s) 1400) (FileTooLong 1400) in
     by_check (then (check v) limit)
-    (λ (sound : then (check v) limit ≡ Sound).
+    (λ (sound : then (check v) limit ≡ Ok tt).
     let read : with_rows v room (read_rows 201 v s 0 []) ≡ accepted starts = rw sound at e in
     let (rows, were-read, passed, same) = rows_were_read v room (read_rows 201 v s 0 []) starts read in
     subst (PlanAccepted v s room) same (rows_accepted v sized s bytes room rows (first_sound (check v) limit sound) were-read passed))
-    (λ (why : Refusal) (fault : then (check v) limit ≡ Refused why).
+    (λ (why : Refusal) (fault : then (check v) limit ≡ Err why).
     let no : refused why ≡ accepted starts = rw fault at e in
     absurd (let z : ◌≡◌ {A = ℕ} 0 1 = cc in omega arith))
 
@@ -173,7 +169,7 @@ pub file_answered : (v : View) → Counted v → (s : List ℕ) → Bytes s → 
     read_plan_file v s room ≡ accepted starts → plan_reply v (read_plan_file v s room) ≡ starts_reply v starts
 unfolding starts_reply reply_with plan_reply
 file_answered v sized s bytes room starts e =
-    ap (plan_reply v) e ∙ sym (ap (λ (x : Checked). reply_with x (end_of_plan v starts)) (accepted_rows v sized s bytes room starts e).checked)
+    ap (plan_reply v) e ∙ sym (ap (λ (x : Result Unit Refusal). reply_with x (end_of_plan v starts)) (accepted_rows v sized s bytes room starts e).checked)
 
 -- the sequence of the rows does not matter: in any other they are read as the same starts
 pub any_sequence : (v : View) → Counted v → Idents16 v → (s : List ℕ) → Bytes s → (room : ℕ) (starts order : List ℕ) →
@@ -188,7 +184,7 @@ any_sequence v sized named s bytes room starts order e arranged =
 listing_arranged : (K : ℕ) → Arrange (listing K) (listing K)
 listing_arranged K = arrange_same (listing K) (listing K) (listing_no_repeats K) (listing_no_repeats K) (λ j m. m) (λ j m. m)
 
-module _ (v : View) (sized : Counted v) (named : Idents16 v) (starts : List ℕ) (checked : check_starts v starts ≡ Sound) where
+module _ (v : View) (sized : Counted v) (named : Idents16 v) (starts : List ℕ) (checked : check_starts v starts ≡ Ok tt) where
   -- the file of accepted starts is read as them
   pub encoding_read : (room : ℕ) → v.demand_count ≤ room → read_plan_file v (encode_plan v starts) room ≡ accepted (take v.demand_count starts)
   encoding_read room enough =
@@ -197,7 +193,7 @@ module _ (v : View) (sized : Counted v) (named : Idents16 v) (starts : List ℕ)
 
   -- so the answer is the plan's end, and the buffer holds the starts, whatever it held, with the rest as it was
   pub encoding_answered : (buffer : List ℕ) → v.demand_count ≤ length buffer →
-      (plan_reply v (read_plan_file v (encode_plan v starts) (length buffer)) ≡ Accepted (end_of_plan v starts)) ×
+      (plan_reply v (read_plan_file v (encode_plan v starts) (length buffer)) ≡ Ok (end_of_plan v starts)) ×
       (plan_starts (read_plan_file v (encode_plan v starts) (length buffer)) buffer ≡ take v.demand_count starts ++ drop v.demand_count buffer)
   unfolding over
   encoding_answered buffer enough =
@@ -205,7 +201,7 @@ module _ (v : View) (sized : Counted v) (named : Idents16 v) (starts : List ℕ)
       let there = (limits_are v sized named starts checked).demands_there in
       let front : length (take K starts) ≡ K = length-take-le K starts (each_passed v starts checked).1 in
       let result = accepted_result v (read_plan_file v (encode_plan v starts) (length buffer)) buffer (take K starts) (encoding_read (length buffer) enough) in (
-        sym result.0 ∙ ap Accepted (sym (end_alike v there starts (take K starts) (front_alike v starts))),
+        sym result.0 ∙ ap Ok (sym (end_alike v there starts (take K starts) (front_alike v starts))),
         sym result.1 ∙ ap (λ (n : ℕ). take K starts ++ drop n buffer) front,
       )
 
@@ -223,7 +219,7 @@ module _ (v : View) (sized : Counted v) (named : Idents16 v) (s : List ℕ) (byt
 
   -- written from a buffer that the starts were read into, it is the same bytes
   pub same_bytes : (buffer out : List ℕ) → length s ≤ length out →
-      (plan_written v (plan_starts (read_plan_file v s room) buffer) out ≡ Wrote (length s)) ×
+      (plan_written v (plan_starts (read_plan_file v s room) buffer) out ≡ Ok (length s)) ×
       (plan_out v (plan_starts (read_plan_file v s room) buffer) out ≡ s ++ drop (length s) out)
   unfolding over
   same_bytes buffer out enough =
@@ -237,7 +233,7 @@ module _ (v : View) (sized : Counted v) (named : Idents16 v) (s : List ℕ) (byt
       in_listing_order v held there
       ∙ (sym (rows_alike v there starts held same (listing K) (λ k m. listing_below K k m)) ∙ (sym (in_listing_order v starts there) ∙ sym read_encodes)) in
       let size : length (encode_plan v held) ≡ length s = ap length file in
-      let wrote : plan_written v held out ≡ Wrote (length s) = plan_wrote v held out checked (omega arith) ∙ ap Wrote size in
+      let wrote : plan_written v held out ≡ Ok (length s) = plan_wrote v held out checked (omega arith) ∙ ap Ok size in
       rw (sym (accepted_result v (read_plan_file v s room) buffer starts read).1) (
         wrote,
         out_wrote v held out (length s) wrote ∙ ap (λ (l : List ℕ). l ++ drop (length s) out) file,
@@ -245,8 +241,8 @@ module _ (v : View) (sized : Counted v) (named : Idents16 v) (s : List ℕ) (byt
 
 module _ (r : Request) (whole : Whole r) (named : Idents16 (view r)) where
   -- what `write_plan` writes `read_plan` reads back unchanged: the same end, and the same starts
-  pub written_then_read : (starts out buffer : List ℕ) (bytes : ℕ) → plan_written (view r) starts out ≡ Wrote bytes → (view r).demand_count ≤ length buffer →
-      (plan_reply (view r) (read_plan_file (view r) (take bytes (plan_out (view r) starts out)) (length buffer)) ≡ Accepted (end_of_plan (view r) starts)) ×
+  pub written_then_read : (starts out buffer : List ℕ) (bytes : ℕ) → plan_written (view r) starts out ≡ Ok bytes → (view r).demand_count ≤ length buffer →
+      (plan_reply (view r) (read_plan_file (view r) (take bytes (plan_out (view r) starts out)) (length buffer)) ≡ Ok (end_of_plan (view r) starts)) ×
       (plan_starts (read_plan_file (view r) (take bytes (plan_out (view r) starts out)) (length buffer)) buffer
       ≡ take (view r).demand_count starts ++ drop (view r).demand_count buffer)
   written_then_read starts out buffer bytes wrote enough =
@@ -259,7 +255,7 @@ module _ (r : Request) (whole : Whole r) (named : Idents16 (view r)) where
   -- what `read_plan` reads from a file in listing order `write_plan` writes as the same bytes, with the rest as it was
   pub read_then_written : (s : List ℕ) → Bytes s → (starts buffer out : List ℕ) → read_plan_file (view r) s (length buffer) ≡ accepted starts →
       InListingOrder (view r) s → length s ≤ length out →
-      (plan_written (view r) (plan_starts (read_plan_file (view r) s (length buffer)) buffer) out ≡ Wrote (length s)) ×
+      (plan_written (view r) (plan_starts (read_plan_file (view r) s (length buffer)) buffer) out ≡ Ok (length s)) ×
       (plan_out (view r) (plan_starts (read_plan_file (view r) s (length buffer)) buffer) out ≡ s ++ drop (length s) out)
   read_then_written s bytes starts buffer out read in_order enough =
       same_bytes (view r) (whole_counted r whole) named s bytes (length buffer) starts read in_order buffer out enough

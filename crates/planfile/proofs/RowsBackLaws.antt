@@ -1,6 +1,6 @@
 -- The rows of an order are read back, whatever the order.
 use Prim.Native.Nat.{ℕ, zero, suc, ◌+◌, ◌≤◌, ◌<◌}
-use Rattle.std.specs.Prelude.{Bool, true, false, ◌||◌, ◌≡◌, refl, eqb, drop}
+use Rattle.std.specs.Prelude.{Bool, true, false, ◌||◌, ◌≡◌, refl, eqb, drop, Ok}
 use mathlib.Core.List.Memᴰ
 use mathlib.Core.List.{List, [], ◌∷◌, Memᴰ}
 use Rattle.std.proofs.Math.Logic.{⊎_elim}
@@ -16,7 +16,6 @@ use Rattle.request.specs.RoundTrip.{Idents16}
 use Rattle.request.specs.Sound.{SoundRequest}
 use Rattle.theory.proofs.TestLaws.{by_test}
 use Rattle.request.specs.View.{View, demand_at, width_of}
-use Rattle.request.specs.declared.Checked.TheVariants.{Sound}
 use Rattle.meeting.specs.Plan.{start_at}
 use Rattle.planfile.proofs.PlanPackingLaws.{row_end}
 use Rattle.planfile.specs.PlanReading.{given, row_in, check_new_row, check_row, read_rows}
@@ -61,7 +60,7 @@ module _ (v : View) (sound : SoundRequest v) (counted : length v.demands ≡ v.d
       let field = there.sound_field in
       let after = row_end s at field in
       let same : row_in v s at ≡ r = rw (there.ident_read, there.start_read, ident_found v sound counted k below) in
-      let passes : check_row v s at rows ≡ Sound =
+      let passes : check_row v s at rows ≡ Ok tt =
       row_decides v s at rows (field_sound s at 4 4 4 field)
       ∙ (ap (check_new_row v at rows) same ∙ row_sound v at rows r (omega arith) (new k (Memᴰ.head refl)) end) in
       let rest = rows_back order left s (at + 7) (r ∷ rows) (omega arith) after.1 there.behind (no_repeats_rest k order once)

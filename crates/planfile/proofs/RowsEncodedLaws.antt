@@ -1,6 +1,6 @@
 -- What was read as rows is the rows of an order.
 use Prim.Native.Nat.{ℕ, zero, suc, ◌+◌, ◌≤◌, ◌<◌}
-use Rattle.std.specs.Prelude.{Bool, true, false, refl, eqb, length}
+use Rattle.std.specs.Prelude.{Bool, true, false, refl, eqb, length, Ok}
 use Rattle.std.proofs.Math.Bool.{cond}
 use mathlib.Core.List.Memᴰ
 use mathlib.Core.List.{List, [], ◌∷◌, ◌++◌, Memᴰ}
@@ -20,7 +20,6 @@ use Rattle.request.specs.View.{idents, View, demand_at}
 use Rattle.fields.specs.FieldLaws.{field_holds}
 use Rattle.request.specs.RoundTrip.{Bytes}
 use Rattle.theory.proofs.TestLaws.{by_test, not_both}
-use Rattle.request.specs.declared.Checked.TheVariants.{Sound}
 use Rattle.meeting.specs.Plan.{start_at}
 use Rattle.planfile.specs.PlanFile.{row_field}
 use Rattle.request.proofs.ViewLaws.{idents_length, ident_at}
@@ -58,7 +57,7 @@ arrange_same (i ∷ order) todo once single there back =
     )
 
 -- a sound row is sound as a field
-pub row_field_lem : (v : View) (s : List ℕ) (at : ℕ) (rows : List Row) → check_row v s at rows ≡ Sound → FieldHolds s at 4 4 4
+pub row_field_lem : (v : View) (s : List ℕ) (at : ℕ) (rows : List Row) → check_row v s at rows ≡ Ok tt → FieldHolds s at 4 4 4
 unfolding check_row
 row_field_lem v s at rows h = field_holds s at 4 4 4 (first_sound (check_field s at 4 4 4) (check_new_row v at rows (row_in v s at)) h)
 

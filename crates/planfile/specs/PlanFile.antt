@@ -1,6 +1,6 @@
 -- A plan as a file: a field for each demand, with its ident and its start, in listing order.
-use Rattle.std.specs.Prelude.{ℕ, ◌+◌, List, [], ◌∷◌, ◌++◌, length}
-use Rattle.request.specs.declared.Written.{Written}
+use Rattle.refusal.specs.declared.Refusal.{Refusal}
+use Rattle.std.specs.Prelude.{ℕ, ◌+◌, List, [], ◌∷◌, ◌++◌, length, Result}
 use Rattle.request.specs.View.{DemandView, View}
 use Rattle.request.specs.Encoding.{two_bytes, field}
 use Rattle.lent.specs.Lent.{write_reply, filled}
@@ -24,7 +24,7 @@ unfolding row_fields
 encode_plan v starts = row_fields starts 0 v.demands
 
 -- writing a plan, the answer: the check of starts, then 10 with what the file needs; else its length
-unfoldable pub plan_written : View → List ℕ → List ℕ → Written
+unfoldable pub plan_written : View → List ℕ → List ℕ → Result ℕ Refusal
 unfolding check_starts encode_plan write_reply
 plan_written v starts out = write_reply (check_starts v starts) (length (encode_plan v starts)) (length out)
 

@@ -1,8 +1,7 @@
 -- Plans and files, there and back: what the promises speak of.
-use Rattle.std.specs.Prelude.{ℕ, ◌+◌, ◌*◌, ◌/◌, ◌≤◌, List, [], ◌∷◌, ◌++◌, map, ◌≡◌, length}
+use Rattle.std.specs.Prelude.{ℕ, ◌+◌, ◌*◌, ◌/◌, ◌≤◌, List, [], ◌∷◌, ◌++◌, map, ◌≡◌, length, Ok}
 use Rattle.theory.specs.Arrange.{Arrange}
 use Rattle.theory.specs.Orders.{listing}
-use Rattle.request.specs.declared.Checked.TheVariants.{Sound}
 use Rattle.request.specs.View.{View, demand_at, idents}
 use Rattle.fields.specs.Field.{number16}
 use Rattle.meeting.specs.Plan.{start_at}
@@ -31,6 +30,6 @@ pub record PlanAccepted (v : View) (s : List ℕ) (room : ℕ) (starts : List �
   pub order : List ℕ
   pub each_once : Arrange order (listing v.demand_count)
   pub rows : s ≡ rows_in_order v starts order
-  pub checked : check_starts v starts ≡ Sound
+  pub checked : check_starts v starts ≡ Ok tt
   pub all_starts : length starts ≡ v.demand_count
   pub room_enough : v.demand_count ≤ room

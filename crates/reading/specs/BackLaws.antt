@@ -1,11 +1,10 @@
 -- The fields of sound links and demands are read as those links and demands.
-use Rattle.std.specs.Prelude.{ℕ, zero, suc, ◌+◌, ◌≤◌, ◌<◌, Bool, true, false, cond, ◌||◌, List, [], ◌∷◌, ◌++◌, ◌≡◌, length, get_or, drop, ltb, eqb}
+use Rattle.std.specs.Prelude.{ℕ, zero, suc, ◌+◌, ◌≤◌, ◌<◌, Bool, true, false, cond, ◌||◌, List, [], ◌∷◌, ◌++◌, ◌≡◌, length, get_or, drop, ltb, eqb, Ok, Err}
 use Rattle.std.proofs.Math.Bool.{or-true, and-false}
 use Rattle.std.proofs.Common.{append_assoc, append-nil, sym, ap, ◌∙◌, arith, lt-ltb, eq-eqb, ne_eqb, length-append}
 use Rattle.std.proofs.lemmas.Bool.{eqb-false}
 use Rattle.refusal.specs.declared.Refusal.TheVariants.{BadLink}
 use Rattle.request.specs.declared.Link.{Link}
-use Rattle.request.specs.declared.Checked.TheVariants.{Sound, Refused}
 use Rattle.request.specs.View.{DemandView, demand_at, idents, width_of}
 use Rattle.request.specs.Check.{check_links, check_demand, check_demands}
 use Rattle.request.proofs.CheckLaws.{first_sound, next_sound, width_allowed, hops_allowed}
@@ -39,7 +38,7 @@ goes_on s at count l rest there =
     rw (not_last, no-width, no-rate) (and-false (ltb 0 count))
 
 -- it is sound where there is room and its nodes differ
-field_there : (s : List ℕ) (at count : ℕ) (l : Link) (rest : List ℕ) → LinkThere s at l rest → count < 64 → (l.from ≡ l.to → ⊥) → Sound ≡ check_link_field s at count
+field_there : (s : List ℕ) (at count : ℕ) (l : Link) (rest : List ℕ) → LinkThere s at l rest → count < 64 → (l.from ≡ l.to → ⊥) → Ok tt ≡ check_link_field s at count
 unfolding link_in
 field_there s at count l rest there room differ =
     let field = there.sound_field in
@@ -50,7 +49,7 @@ field_there s at count l rest there room differ =
 -- links are read back
 pub links_back : (more : List Link) (left : ℕ) (s : List ℕ) (at : ℕ) (before : List Link) (rest : List ℕ) (k : ℕ) →
     length more < left → length before + length more ≤ 64 → 0 < length before + length more → at ≤ length s →
-    drop at s ≡ link_fields more ++ rest → demands_begin (get_or rest 0 3) ≡ true → check_links k more ≡ Sound →
+    drop at s ≡ link_fields more ++ rest → demands_begin (get_or rest 0 3) ≡ true → check_links k more ≡ Ok tt →
     read_links left s at before ≡ links_read (before ++ more) (at + length (link_fields more))
 unfolding link_fields link_field field two_bytes check_links links_end
 links_back [] zero s at before rest k fuel few some within e last sound = absurd (omega arith)
@@ -63,20 +62,20 @@ links_back (l ∷ more) (suc left) s at before rest k fuel few some within e las
     let there = link_there s at l (link_fields more ++ rest) within e in
     let field = there.sound_field in
     let differ : l.from ≡ l.to → ⊥ = eqb-false l.from l.to
-    (not_refused (eqb l.from l.to) (BadLink k) (first_sound (cond (eqb l.from l.to) (Refused (BadLink k)) Sound) (check_links (k + 1) more) sound)) in
+    (not_refused (eqb l.from l.to) (BadLink k) (first_sound (cond (eqb l.from l.to) (Err (BadLink k)) (Ok tt)) (check_links (k + 1) more) sound)) in
     let grown = length-append before (l ∷ []) in
     let last-at : at + 5 + length (link_fields more) ≡ at + suc (suc (suc (suc (suc (length (link_fields more)))))) = omega arith in
     links_more left s at before (goes_on s at (length before) l (link_fields more ++ rest) there)
     (field_there s at (length before) l (link_fields more ++ rest) there (omega arith) differ) ∙
     rw (link_end s at field, there.same)
     (links_back more left s (at + 5) (before ++ (l ∷ [])) rest (k + 1) (omega arith) (omega arith) (omega arith) (omega arith) there.behind last
-    (next_sound (cond (eqb l.from l.to) (Refused (BadLink k)) Sound) (check_links (k + 1) more) sound) ∙
+    (next_sound (cond (eqb l.from l.to) (Err (BadLink k)) (Ok tt)) (check_links (k + 1) more) sound) ∙
     rw (append_assoc before (l ∷ []) more, last-at))
 
 -- demands are read back
 pub demands_back : (more : List DemandView) (left S : ℕ) (links : List Link) (s : List ℕ) (at : ℕ) (before : List DemandView) (k : ℕ) →
     length more < left → length before + length more ≤ 200 → S < 65536 → at ≤ length s → drop at s ≡ demand_fields more →
-    check_demands S links (idents before) k more ≡ Sound →
+    check_demands S links (idents before) k more ≡ Ok tt →
     ((j : ℕ) → j < length more → (demand_at more j).hops ≤ 32 → length (demand_at more j).route ≡ (demand_at more j).hops) →
     ((j : ℕ) → j < length more → (demand_at more j).ident < 65536) →
     read_demands left S links s at before ≡ demands_read (before ++ more)
@@ -94,7 +93,7 @@ demands_back (d ∷ more) (suc left) S links s at before k fuel few slots within
     let there = demand_there s at d (demand_fields more) within e (named 0 (omega arith)) (asked_fits S d slots passes.asked_known width.1) (counted 0 (omega arith) hops.1) hops.0 hops.1 in
     let field = there.sound_field in
     let room : length (idents before) < 200 = omega (arith, idents_length before) in
-    let good : Sound ≡ check_demand_field S links s at (idents before)
+    let good : Ok tt ≡ check_demand_field S links s at (idents before)
     = demand_then S links s at (idents before) (sym (field_sound s at (demand_tag s at) 5 36 field))
     (demand_sound S links (idents before) at d room passes.ident_new passes.asked_known passes.width_allowed passes.route_sound ∙
     ap (check_new_demand S links (idents before) at) (sym there.same)) in

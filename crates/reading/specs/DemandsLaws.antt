@@ -1,5 +1,5 @@
 -- The demands of a file, one by one.
-use Rattle.std.specs.Prelude.{ℕ, suc, ◌+◌, ◌-◌, ◌≤◌, ◌<◌, ◌≡◌, refl, true, false, not, set, take, drop, replicate, ltb}
+use Rattle.std.specs.Prelude.{ℕ, suc, ◌+◌, ◌-◌, ◌≤◌, ◌<◌, ◌≡◌, refl, true, false, not, set, take, drop, replicate, ltb, Result, Ok, Err}
 use Rattle.std.proofs.Math.Path.{sym, ap}
 use Rattle.std.proofs.Common.{◌∙◌, ltb-true, lt-ltb, le-ltb, eq-eqb, ne_eqb, length-drop, length-take-le}
 use mathlib.Core.List.{List, [], ◌∷◌, ◌++◌, map, map-append}
@@ -11,8 +11,6 @@ use Rattle.refusal.specs.declared.Refusal.TheVariants.{TooManyDemands, IdentUsed
 use Rattle.grid.specs.Grid.{allowed_width}
 use Rattle.request.specs.declared.Link.{Link}
 use Rattle.request.specs.declared.Demand.{Demand}
-use Rattle.request.specs.declared.Checked.{Checked}
-use Rattle.request.specs.declared.Checked.TheVariants.{Sound, Refused}
 use Rattle.request.specs.View.{DemandView, view_demand, idents, width_of}
 use Rattle.request.specs.Check.{then, has, sound_route, must, known_asked}
 use Rattle.fields.specs.Field.{number16, body_length, field_end, check_field}
@@ -29,44 +27,44 @@ use Rattle.request.proofs.ViewLaws.{idents_length}
 
 module _ (S : ℕ) (links : List Link) (earlier : List ℕ) (at : ℕ) (d : DemandView) where
   -- 6: the 201st demand
-  pub demand_too_many : 200 ≤ length earlier → Refused (TooManyDemands at) ≡ check_new_demand S links earlier at d
+  pub demand_too_many : 200 ≤ length earlier → Err (TooManyDemands at) ≡ check_new_demand S links earlier at d
   unfolding check_new_demand then must
   demand_too_many many = rw (le-ltb (length earlier) 200 many)
 
   module _ (few : length earlier < 200) where
     -- 8: an ident that was used
-    pub demand_used : has d.ident earlier ≡ true → Refused (IdentUsed at) ≡ check_new_demand S links earlier at d
+    pub demand_used : has d.ident earlier ≡ true → Err (IdentUsed at) ≡ check_new_demand S links earlier at d
     unfolding check_new_demand then must
     demand_used used = rw (lt-ltb (length earlier) 200 few, used)
 
     -- 21: a rate that is not in the table
-    pub demand_unknown : has d.ident earlier ≡ false → known_asked d.asked ≡ false → Refused (UnknownRate at) ≡ check_new_demand S links earlier at d
+    pub demand_unknown : has d.ident earlier ≡ false → known_asked d.asked ≡ false → Err (UnknownRate at) ≡ check_new_demand S links earlier at d
     unfolding check_new_demand then must
     demand_unknown new unknown = rw (lt-ltb (length earlier) 200 few, new, unknown)
 
     -- 9: a width outside the band
-    pub demand_wide : has d.ident earlier ≡ false → known_asked d.asked ≡ true → allowed_width S (width_of d) ≡ false → Refused (BadWidth at) ≡ check_new_demand S links earlier at d
+    pub demand_wide : has d.ident earlier ≡ false → known_asked d.asked ≡ true → allowed_width S (width_of d) ≡ false → Err (BadWidth at) ≡ check_new_demand S links earlier at d
     unfolding check_new_demand then must
     demand_wide new known wide = rw (lt-ltb (length earlier) 200 few, new, known, wide)
 
     -- 7: an unsound route
-    pub demand_astray : has d.ident earlier ≡ false → known_asked d.asked ≡ true → allowed_width S (width_of d) ≡ true → sound_route links d.route ≡ false → Refused (BadRoute at) ≡ check_new_demand S links earlier at d
+    pub demand_astray : has d.ident earlier ≡ false → known_asked d.asked ≡ true → allowed_width S (width_of d) ≡ true → sound_route links d.route ≡ false → Err (BadRoute at) ≡ check_new_demand S links earlier at d
     unfolding check_new_demand then must
     demand_astray new known width astray = rw (lt-ltb (length earlier) 200 few, new, known, width, astray)
 
     -- a demand with none of these faults
-    pub demand_sound : has d.ident earlier ≡ false → known_asked d.asked ≡ true → allowed_width S (width_of d) ≡ true → sound_route links d.route ≡ true → Sound ≡ check_new_demand S links earlier at d
+    pub demand_sound : has d.ident earlier ≡ false → known_asked d.asked ≡ true → allowed_width S (width_of d) ≡ true → sound_route links d.route ≡ true → Ok tt ≡ check_new_demand S links earlier at d
     unfolding check_new_demand then must
     demand_sound new known width route = rw (lt-ltb (length earlier) 200 few, new, known, width, route)
 
 -- a new demand that is sound says so
-pub demand_holds : (S : ℕ) (links : List Link) (earlier : List ℕ) (at : ℕ) (d : DemandView) → check_new_demand S links earlier at d ≡ Sound → NewDemandHolds S links earlier d
+pub demand_holds : (S : ℕ) (links : List Link) (earlier : List ℕ) (at : ℕ) (d : DemandView) → check_new_demand S links earlier at d ≡ Ok tt → NewDemandHolds S links earlier d
 unfolding check_new_demand
 demand_holds S links earlier at d sound =
     let one = next_sound (must (ltb (length earlier) 200) (TooManyDemands at)) _ sound in
     let two = next_sound (must (not (has d.ident earlier)) (IdentUsed at)) _ one in
     let three = next_sound (must (known_asked d.asked) (UnknownRate at)) _ two in
-    let four : must (sound_route links d.route) (BadRoute at) ≡ Sound
+    let four : must (sound_route links d.route) (BadRoute at) ≡ Ok tt
     = next_sound (must (allowed_width S (width_of d)) (BadWidth at)) _ three in
     record {
       room = ltb-true (length earlier) 200 (test_held (ltb (length earlier) 200) (TooManyDemands at) (first_sound (must (ltb (length earlier) 200) (TooManyDemands at)) _ sound));
@@ -94,26 +92,26 @@ module _ (left S : ℕ) (links : List Link) (s : List ℕ) (at : ℕ) (demands :
   demands_done done = rw (eq-eqb at (length s) done)
 
   -- a fault ends the reading
-  pub demands_fault : {why : Refusal} → (at ≡ length s → ⊥) → Refused why ≡ check_demand_field S links s at (idents demands) → read_demands (suc left) S links s at demands ≡ demands_refused why
+  pub demands_fault : {why : Refusal} → (at ≡ length s → ⊥) → Err why ≡ check_demand_field S links s at (idents demands) → read_demands (suc left) S links s at demands ≡ demands_refused why
   unfolding read_demands next_demands
   demands_fault more fault = rw (ne_eqb at (length s) more, ← fault)
 
   -- a sound field is one demand more
-  pub demands_more : (at ≡ length s → ⊥) → Sound ≡ check_demand_field S links s at (idents demands) →
+  pub demands_more : (at ≡ length s → ⊥) → Ok tt ≡ check_demand_field S links s at (idents demands) →
       read_demands (suc left) S links s at demands ≡ read_demands left S links s (field_end s at) (demands ++ (demand_in s at ∷ []))
   unfolding read_demands next_demands
   demands_more more sound = rw (ne_eqb at (length s) more, ← sound)
 
 -- a field is tested for the tag that a demand's field must have
-pub field_tagged : {answer : Checked} (s : List ℕ) (at tag : ℕ) → tag ≡ demand_tag s at → answer ≡ check_field s at tag 5 36 → answer ≡ check_field s at (demand_tag s at) 5 36
+pub field_tagged : {answer : Result Unit Refusal} (s : List ℕ) (at tag : ℕ) → tag ≡ demand_tag s at → answer ≡ check_field s at tag 5 36 → answer ≡ check_field s at (demand_tag s at) 5 36
 field_tagged s at tag same e = e ∙ ap (λ (t : ℕ). check_field s at t 5 36) same
 
 -- the two parts of a demand's field: the field, then the demand in it
-pub field_first : {why : Refusal} (S : ℕ) (links : List Link) (s : List ℕ) (at : ℕ) (earlier : List ℕ) → Refused why ≡ check_field s at (demand_tag s at) 5 36 → Refused why ≡ check_demand_field S links s at earlier
+pub field_first : {why : Refusal} (S : ℕ) (links : List Link) (s : List ℕ) (at : ℕ) (earlier : List ℕ) → Err why ≡ check_field s at (demand_tag s at) 5 36 → Err why ≡ check_demand_field S links s at earlier
 unfolding check_demand_field then
 field_first S links s at earlier fault = rw (← fault)
 
-pub demand_then : {answer : Checked} (S : ℕ) (links : List Link) (s : List ℕ) (at : ℕ) (earlier : List ℕ) → Sound ≡ check_field s at (demand_tag s at) 5 36 → answer ≡ check_new_demand S links earlier at (demand_in s at) → answer ≡ check_demand_field S links s at earlier
+pub demand_then : {answer : Result Unit Refusal} (S : ℕ) (links : List Link) (s : List ℕ) (at : ℕ) (earlier : List ℕ) → Ok tt ≡ check_field s at (demand_tag s at) 5 36 → answer ≡ check_new_demand S links earlier at (demand_in s at) → answer ≡ check_demand_field S links s at earlier
 unfolding check_demand_field then
 demand_then S links s at earlier sound e = rw (← sound) e
 
@@ -139,7 +137,7 @@ module _ (S : ℕ) (links : List Link) (s : List ℕ) (start at count : ℕ) (ar
       rw (so_far.named, ← named) (take_padded 200 0 (idents so_far.demands))
 
   -- the end
-  pub demands_finish : at ≡ length s → record { verdict = Sound; count = count; demands = array } ≡ pack_demands (read_demands 201 S links s start [])
+  pub demands_finish : at ≡ length s → Ok (record { count = count; demands = array }) ≡ pack_demands (read_demands 201 S links s start [])
   unfolding pack_demands padded
   demands_finish done =
       let all : read_demands 201 S links s start [] ≡ demands_read so_far.demands
@@ -147,8 +145,9 @@ module _ (S : ℕ) (links : List Link) (s : List ℕ) (start at count : ℕ) (ar
       rw (all, so_far.stored, so_far.counted)
 
   -- a fault
-  pub demands_fail : {why : Refusal} → (at ≡ length s → ⊥) → Refused why ≡ check_demand_field S links s at (take count used) →
-      pack_demands (demands_refused why) ≡ pack_demands (read_demands 201 S links s start [])
+  pub demands_fail : {why : Refusal} → (at ≡ length s → ⊥) → Err why ≡ check_demand_field S links s at (take count used) →
+      Err why ≡ pack_demands (read_demands 201 S links s start [])
+  unfolding pack_demands
   demands_fail more fault =
       ap pack_demands (sym (demands_fault (200 - count) S links s at so_far.demands more (rw used_front at fault)) ∙ demands_here)
 
@@ -167,14 +166,14 @@ module _ (S : ℕ) (links : List Link) (s : List ℕ) (start at count : ℕ) (ar
       omega (arith, so_far.few)
 
   -- a sound field leaves room for its demand
-  pub demand_room : Sound ≡ check_demand_field S links s at (take count used) → count < 200
+  pub demand_room : Ok tt ≡ check_demand_field S links s at (take count used) → count < 200
   unfolding check_demand_field
   demand_room sound =
       let holds = demand_holds S links (take count used) at (demand_in s at) (next_sound (check_field s at (demand_tag s at) 5 36) _ (sym sound)) in
       omega (arith, holds.room, used_length)
 
   -- one demand more
-  demands_next : (at ≡ length s → ⊥) → Sound ≡ check_demand_field S links s at (take count used) →
+  demands_next : (at ≡ length s → ⊥) → Ok tt ≡ check_demand_field S links s at (take count used) →
       DemandsSoFar S links s start (at + 7 + (demand_in s at).hops) (count + 1) (set array count (pack_demand (demand_in s at))) (set used count (demand_in s at).ident)
   unfolding idents check_demand_field
   demands_next more sound =
@@ -206,7 +205,7 @@ module _ (S : ℕ) (links : List Link) (s : List ℕ) (start at count : ℕ) (ar
 
   module _ (demand : Demand) (read : demand ≡ pack_demand (demand_in s at)) where
     -- the demand read is checked in its array as in its field
-    pub demand_here : {answer : Checked} → Sound ≡ check_field s at (demand_tag s at) 5 36 → answer ≡ check_new_demand S links (take count used) at (view_demand demand) →
+    pub demand_here : {answer : Result Unit Refusal} → Ok tt ≡ check_field s at (demand_tag s at) 5 36 → answer ≡ check_new_demand S links (take count used) at (view_demand demand) →
         answer ≡ check_demand_field S links s at (take count used)
     demand_here field e =
         let counted = demand_counted s at (field_holds s at (demand_tag s at) 5 36 (sym field)) in
@@ -214,7 +213,15 @@ module _ (S : ℕ) (links : List Link) (s : List ℕ) (start at count : ℕ) (ar
         (e ∙ ap (check_new_demand S links (take count used) at) (ap view_demand read ∙ view_packed (demand_in s at) counted))
 
     -- it is stored as one more
-    pub demands_step : (at ≡ length s → ⊥) → Sound ≡ check_demand_field S links s at (take count used) →
+    pub demands_step : (at ≡ length s → ⊥) → Ok tt ≡ check_demand_field S links s at (take count used) →
         DemandsSoFar S links s start (at + 7 + demand.hops) (count + 1) (set array count demand) (set used count demand.ident)
     unfolding pack_demand
     demands_step more sound = rw read (demands_next more sound)
+
+    -- a sound field leaves room for its demand, and the reading goes on behind it
+    pub demands_go_on : (tag : ℕ) → tag ≡ demand_tag s at → at < length s → check_field s at tag 5 36 ≡ Ok tt →
+        check_new_demand S links (take count used) at (view_demand demand) ≡ Ok tt →
+        (count < 200) × DemandsSoFar S links s start (at + 7 + demand.hops) (count + 1) (set array count demand) (set used count demand.ident)
+    demands_go_on tag same more field new =
+        let sound = demand_here (field_tagged s at tag same (sym field)) (sym new) in
+        (demand_room sound, demands_step (λ (done : at ≡ length s). omega arith) sound)

@@ -1,11 +1,10 @@
 -- Links and demands that are read are sound, and the bytes they were read from are their fields.
-use Rattle.std.specs.Prelude.{ℕ, zero, suc, ◌+◌, ◌-◌, ◌≤◌, ◌<◌, Bool, true, false, cond, List, [], ◌∷◌, ◌++◌, ◌≡◌, refl, length, drop, leb, ltb, eqb}
+use Rattle.std.specs.Prelude.{ℕ, zero, suc, ◌+◌, ◌-◌, ◌≤◌, ◌<◌, Bool, true, false, cond, List, [], ◌∷◌, ◌++◌, ◌≡◌, refl, length, drop, leb, ltb, eqb, Ok, Err}
 use Rattle.std.proofs.Common.{append_assoc, append-nil, sym, ap, ◌∙◌, arith, ltb-true, le-leb, eqb-true, ne_eqb, length-append, drop_of_length-le}
 use Rattle.std.proofs.lemmas.Bool.{eqb-false}
 use Rattle.refusal.specs.declared.Refusal.{Refusal}
 use Rattle.refusal.specs.declared.Refusal.TheVariants.{BadLink}
 use Rattle.request.specs.declared.Link.{Link}
-use Rattle.request.specs.declared.Checked.TheVariants.{Sound, Refused}
 use Rattle.request.specs.View.{DemandView, demand_at, idents}
 use Rattle.request.specs.Check.{allowed_hops, check_links, check_demand, check_demands}
 use Rattle.theory.proofs.TestLaws.{by_test, and_first, and_both}
@@ -53,8 +52,8 @@ links_grown s at before links end holds rest =
       some = rest.some;
       few = rest.few;
       sound = λ (k : ℕ).
-          then_sound (cond (eqb l.from l.to) (Refused (BadLink k)) Sound) (check_links (k + 1) rest.more)
-          (ap (λ (b : Bool). cond b (Refused (BadLink k)) Sound) (ne_eqb l.from l.to holds.two_nodes)) ∙
+          then_sound (cond (eqb l.from l.to) (Err (BadLink k)) (Ok tt)) (check_links (k + 1) rest.more)
+          (ap (λ (b : Bool). cond b (Err (BadLink k)) (Ok tt)) (ne_eqb l.from l.to holds.two_nodes)) ∙
           rest.sound (k + 1);
     }
 
@@ -72,7 +71,7 @@ links_encoded (suc left) s at before links end within few e =
     rw (← same, ← here) (links_ended s at before within few ended))
     (λ (more : links_end s at (length before) ≡ false).
     by_check (check_link_field s at (length before))
-    (λ (sound : check_link_field s at (length before) ≡ Sound).
+    (λ (sound : check_link_field s at (length before) ≡ Ok tt).
     let holds = link_holds s at (length before) sound in
     let field = holds.field in
     let grown = length-append before (link_in s at ∷ []) in
@@ -80,7 +79,7 @@ links_encoded (suc left) s at before links end within few e =
     = ap (λ (n : ℕ). read_links left s n (before ++ (link_in s at ∷ []))) (sym (link_end s at field)) ∙ sym (links_more left s at before more (sym sound)) ∙ e in
     links_grown s at before links end holds
     (links_encoded left s (at + 5) (before ++ (link_in s at ∷ [])) links end (omega arith) (omega (arith, holds.room)) rest))
-    (λ (why : Refusal) (fault : check_link_field s at (length before) ≡ Refused why).
+    (λ (why : Refusal) (fault : check_link_field s at (length before) ≡ Err why).
     let read : links_refused why ≡ links_read links end = sym (links_fault left s at before more (sym fault)) ∙ e in
     absurd (let z : ◌≡◌ {A = ℕ} 0 1 = cc in omega arith)))
 
@@ -152,7 +151,7 @@ demands_encoded (suc left) S links s at before demands bytes within few e =
     (λ (not_done : eqb at (length s) ≡ false).
     let more = eqb-false at (length s) not_done in
     by_check (check_demand_field S links s at (idents before))
-    (λ (sound : check_demand_field S links s at (idents before) ≡ Sound).
+    (λ (sound : check_demand_field S links s at (idents before) ≡ Ok tt).
     let field = field_holds s at (demand_tag s at) 5 36 (first_sound (check_field s at (demand_tag s at) 5 36) (check_new_demand S links (idents before) at (demand_in s at)) sound) in
     let holds = demand_holds S links (idents before) at (demand_in s at) (next_sound (check_field s at (demand_tag s at) 5 36) (check_new_demand S links (idents before) at (demand_in s at)) sound) in
     let grown = length-append before (demand_in s at ∷ []) in
@@ -162,6 +161,6 @@ demands_encoded (suc left) S links s at before demands bytes within few e =
     demands_grown S links s at before demands bytes field holds
     (demands_encoded left S links s (at + 7 + (demand_in s at).hops) (before ++ (demand_in s at ∷ [])) demands bytes
     (rw (← demand_end s at field) (field_within s at field)) (omega (arith, holds.room, idents_length before)) rest))
-    (λ (why : Refusal) (fault : check_demand_field S links s at (idents before) ≡ Refused why).
+    (λ (why : Refusal) (fault : check_demand_field S links s at (idents before) ≡ Err why).
     let read : demands_refused why ≡ demands_read demands = sym (demands_fault left S links s at before more (sym fault)) ∙ e in
     absurd (let z : ◌≡◌ {A = ℕ} 0 1 = cc in omega arith)))

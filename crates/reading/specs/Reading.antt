@@ -1,5 +1,5 @@
 -- Reading a request from the bytes of a file: field by field, each with its checks in their order. A place is the offset of the field.
-use Rattle.std.specs.Prelude.{ℕ, zero, suc, ◌+◌, ◌-◌, Bool, cond, not, ◌&&◌, ◌||◌, List, [], ◌∷◌, ◌++◌, length, get_or, take, drop, leb, ltb, eqb}
+use Rattle.std.specs.Prelude.{ℕ, zero, suc, ◌+◌, ◌-◌, Bool, cond, not, ◌&&◌, ◌||◌, List, [], ◌∷◌, ◌++◌, length, get_or, take, drop, leb, ltb, eqb, Result, Ok, Err}
 use Rattle.refusal.specs.declared.Refusal.{Refusal}
 use Rattle.refusal.specs.declared.Refusal.TheVariants.{WrongTag, BandOutside, BadLink, TooManyDemands, BadRoute, IdentUsed, BadWidth, FileTooLong, UnknownRate}
 use Rattle.grid.specs.declared.Band.{Band}
@@ -7,8 +7,6 @@ use Rattle.grid.specs.Grid.{allowed_band, allowed_width}
 use Rattle.request.specs.declared.Asked.{Asked}
 use Rattle.request.specs.declared.Asked.TheVariants.{Width, Rate}
 use Rattle.request.specs.declared.Link.{Link}
-use Rattle.request.specs.declared.Checked.{Checked}
-use Rattle.request.specs.declared.Checked.TheVariants.{Sound, Refused}
 use Rattle.request.specs.View.{DemandView, View, idents, width_of}
 use Rattle.request.specs.Check.{then, has, sound_route, must, known_asked}
 use Rattle.request.specs.Encoding.{signed16}
@@ -25,7 +23,7 @@ unfolding number16 signed16
 band_in s = record { n0 = signed16 (number16 s 3); slots = number16 s 5; guard = get_or s 7 0 }
 
 -- the first field is the band's: 2 at the file's length where there is none, then 4
-unfoldable pub check_band_field : List ℕ → Checked
+unfoldable pub check_band_field : List ℕ → Result Unit Refusal
 unfolding then must check_field band_in
 check_band_field s =
     then (must (ltb 0 (length s)) (WrongTag (length s)))
@@ -37,7 +35,7 @@ unfoldable pub link_in : List ℕ → ℕ → Link
 link_in s at = record { from = get_or s (at + 3) 0; to = get_or s (at + 4) 0 }
 
 -- a link's field after so many links: 2 at the file's length where it has ended, then 5: the count, then the ends
-unfoldable pub check_link_field : List ℕ → ℕ → ℕ → Checked
+unfoldable pub check_link_field : List ℕ → ℕ → ℕ → Result Unit Refusal
 unfolding then must check_field link_in
 check_link_field s at count =
     then (must (ltb at (length s)) (WrongTag (length s)))
@@ -69,7 +67,7 @@ demand_in s at =
     }
 
 -- a demand after demands of these idents: 6, 8, 21, 9, 7
-unfoldable pub check_new_demand : ℕ → List Link → List ℕ → ℕ → DemandView → Checked
+unfoldable pub check_new_demand : ℕ → List Link → List ℕ → ℕ → DemandView → Result Unit Refusal
 unfolding then must has known_asked sound_route
 check_new_demand S links earlier at d =
     then (must (ltb (length earlier) 200) (TooManyDemands at))
@@ -79,7 +77,7 @@ check_new_demand S links earlier at d =
     (must (sound_route links d.route) (BadRoute at)))))
 
 -- a demand's field: first what every field is tested for
-unfoldable pub check_demand_field : ℕ → List Link → List ℕ → ℕ → List ℕ → Checked
+unfoldable pub check_demand_field : ℕ → List Link → List ℕ → ℕ → List ℕ → Result Unit Refusal
 unfolding then check_field demand_tag demand_in check_new_demand
 check_demand_field S links s at earlier =
     then (check_field s at (demand_tag s at) 5 36) (check_new_demand S links earlier at (demand_in s at))
@@ -95,9 +93,9 @@ pub data LinksRead : Type 0 where
   links_read : List Link → ℕ → LinksRead
 
 -- a sound field, and then the rest
-unfoldable pub next_links : Checked → LinksRead → LinksRead
-next_links Sound rest = rest
-next_links (Refused why) rest = links_refused why
+unfoldable pub next_links : Result Unit Refusal → LinksRead → LinksRead
+next_links (Ok _) rest = rest
+next_links (Err why) rest = links_refused why
 
 -- the links one by one, after some links; the 65th is refused, so that the first number, 65 and falling, never gets to 0
 unfoldable pub read_links : ℕ → List ℕ → ℕ → List Link → LinksRead
@@ -113,9 +111,9 @@ pub data DemandsRead : Type 0 where
   demands_read : List DemandView → DemandsRead
 
 -- a sound field, and then the rest
-unfoldable pub next_demands : Checked → DemandsRead → DemandsRead
-next_demands Sound rest = rest
-next_demands (Refused why) rest = demands_refused why
+unfoldable pub next_demands : Result Unit Refusal → DemandsRead → DemandsRead
+next_demands (Ok _) rest = rest
+next_demands (Err why) rest = demands_refused why
 
 -- the demands one by one, after some demands, up to the end of the file; the 201st is refused, so that the first number, 201 and
 -- falling, never gets to 0
@@ -146,10 +144,10 @@ with_links s band (links_read links at) =
     with_demands band links (read_demands 201 band.slots links s at [])
 
 -- after the band: the links
-unfoldable pub with_band : List ℕ → Checked → FileReading
+unfoldable pub with_band : List ℕ → Result Unit Refusal → FileReading
 unfolding band_in read_links with_links
-with_band s (Refused why) = refused why
-with_band s Sound = with_links s (band_in s) (read_links 65 s 8 [])
+with_band s (Err why) = refused why
+with_band s (Ok _) = with_links s (band_in s) (read_links 65 s 8 [])
 
 -- the whole file: 20, the band, the links, the demands
 unfoldable pub read_file : List ℕ → FileReading

@@ -1,31 +1,23 @@
 // Requests read from the bytes of a file.
 #![tactic(auto)]
 
-ghost use Rattle.std.specs.Prelude.{◌≡◌, [], ◌+◌, ◌≤◌, ◌<◌, pos, ◌-ℤ◌, length, take, drop};
+ghost use Rattle.std.specs.Prelude.{◌≡◌, [], ◌+◌, ◌≤◌, ◌<◌, length, take, drop, Ok, IfOk};
 ghost use Rattle.request.specs.View.{view_demand};
-ghost use Rattle.request.specs.Encoding.{signed16};
-ghost use Rattle.reading.specs.Reading.{refused, band_in, check_band_field, link_in, check_link_field, demand_tag, asked_in, demand_in, check_new_demand, links_end, links_refused, read_links, demands_refused, read_demands, with_links, read_file};
+ghost use Rattle.reading.specs.Reading.{band_in, check_band_field, link_in, check_link_field, demand_tag, asked_in, demand_in, check_new_demand, links_end, read_links, read_demands, with_links, read_file};
 ghost use Rattle.fields.specs.Field.{check_field};
 ghost use Rattle.request.specs.Packing.{padded, pack_demand};
 ghost use Rattle.reading.specs.FilePacking.{pack_reading};
 ghost use Rattle.reading.specs.inner.PartsPacking.{pack_links, pack_demands, band_read};
 
 use fields::{check_field, number_in};
-use grid::{Band, BandReply};
+use grid::Band;
 use refusal::Refusal;
-use request::{Asked, Checked, Demand, Link, Request, empty_demand, empty_request, test_demand};
-
-// What reading a file gives: the request in it; or why it is refused, and the empty request.
-#[derive(Drop)]
-pub struct Reading {
-    pub verdict: Checked,
-    pub request: Request,
-}
+use request::{Asked, Demand, Link, Request, empty_demand, test_demand};
 
 // The links of a file: how many, and where the field behind them stands.
+// Kept as it is: an array with its count, here and in the demands, as there is no heap; `Request`, which is public, has them so.
 #[derive(Drop)]
 struct LinksFound {
-    verdict: Checked,
     count: usize,
     end: usize,
     links: [Link; 64],
@@ -34,120 +26,81 @@ struct LinksFound {
 // The demands of a file.
 #[derive(Drop)]
 struct DemandsFound {
-    verdict: Checked,
     count: usize,
     demands: [Demand; 200],
 }
 
-// The request that a file holds, or the first fault in file order with the offset of its field, beside the empty request.
-pub fn read_request(file: &[u8]) -> Reading
+// The request that a file holds, or the first fault in file order with the offset of its field.
+pub fn read_request(file: &[u8]) -> Result<Request, Refusal>
     ensures { result ≡ pack_reading (read_file file.now) }
 {
     if Request::MOST_BYTES < file.len() {
-        return refused(Refusal::FileTooLong(Request::MOST_BYTES));
+        return Err(Refusal::FileTooLong(Request::MOST_BYTES));
     }
-    let answer = read_band(file);
-    match answer {
-        BandReply::Allowed(band) => read_behind(file, band),
-        BandReply::Refused(why) => refused(why),
-    }
+    let band = read_band(file)?;
+    read_behind(file, band)
 }
 
 // The links and the demands, behind a band that was read.
-fn read_behind(file: &[u8], band: Band) -> Reading
+fn read_behind(file: &[u8], band: Band) -> Result<Request, Refusal>
     requires { 8 ≤ length file.now }
     ensures { result ≡ pack_reading (with_links file.now band (read_links 65 file.now 8 [])) }
 {
-    let slots = band.slots;
-    let found = read_links(file);
-    let links_verdict = found.verdict;
-    if let Checked::Refused(why) = links_verdict {
-        return refused(why);
-    }
-    let links = found.links;
-    let link_count = found.count;
-    let asked = read_demands(file, found.end, slots, links, link_count);
-    let demands_verdict = asked.verdict;
-    if let Checked::Refused(why) = demands_verdict {
-        return refused(why);
-    }
-    let demands = asked.demands;
-    let demand_count = asked.count;
-    let request = Request {
+    let LinksFound {
+        count: link_count,
+        end,
+        links,
+    } = read_links(file)?;
+    let DemandsFound {
+        count: demand_count,
+        demands,
+    } = read_demands(file, end, band.slots, links, link_count)?;
+    Ok(Request {
         band,
         link_count,
         links,
         demand_count,
         demands,
-    };
-    Reading {
-        verdict: Checked::Sound,
-        request,
-    }
-}
-
-// A refusal, beside the empty request.
-fn refused(why: Refusal) -> Reading
-    ensures { result ≡ pack_reading (refused why) }
-{
-    let request = empty_request();
-    Reading {
-        verdict: Checked::Refused(why),
-        request,
-    }
+    })
 }
 
 // The band's field: 2 where the file is empty, 1, 2, 3, then 4.
-fn read_band(file: &[u8]) -> BandReply
+fn read_band(file: &[u8]) -> Result<Band, Refusal>
     ensures { result ≡ band_read (check_band_field file.now) (band_in file.now) }
 {
-    if file.len() == 0 {
-        return BandReply::Refused(Refusal::WrongTag(0));
+    if file.is_empty() {
+        return Err(Refusal::WrongTag(0));
     }
-    let answer = check_field(file, 0, 1, 5, 5);
-    if let Checked::Refused(why) = answer {
-        return BandReply::Refused(why);
-    }
-    Band::new(signed(number_in(file, 3)), number_in(file, 5), file[7])
+    check_field(file, 0, 1, 5, 5)?;
+    Band::new(
+        number_in(file, 3).cast_signed(),
+        number_in(file, 5),
+        file[7],
+    )
 }
 
 // The links one by one, from behind the band to the end of the file or the first demand.
-fn read_links(file: &[u8]) -> LinksFound
+// Kept as it is: the number of links stands beside a fixed array, as there is no heap; and where the next field begins is an offset in bytes,
+// with which a fault is told: an iterator over fields would answer a Result for each and stop at the first fault, which is no plainer.
+fn read_links(file: &[u8]) -> Result<LinksFound, Refusal>
     requires { 8 ≤ length file.now }
     ensures value { result ≡ pack_links (read_links 65 file.now 8 []) }
-    ensures end_in_bounds { result.end ≤ length file.now }
+    ensures end_in_bounds { IfOk result (λ found. found.end ≤ length file.now) }
 {
     let mut links = [Link { from: 0, to: 0 }; 64];
     let mut count = 0;
     let mut at = 8;
-    loop {
-        if links_end(file, at, count) {
-            return LinksFound {
-                verdict: Checked::Sound,
-                count,
-                end: at,
-                links,
-            };
-        }
-        let answer = check_link_field(file, at, count);
-        if let Checked::Refused(why) = answer {
-            return no_links(why);
-        }
+    while !links_end(file, at, count) {
+        check_link_field(file, at, count)?;
         links[count] = link_in(file, at);
         count += 1;
         at += 5;
     }
-}
-
-fn no_links(why: Refusal) -> LinksFound
-    ensures { result ≡ pack_links (links_refused why) }
-{
-    LinksFound {
-        verdict: Checked::Refused(why),
-        count: 0,
-        end: 0,
-        links: [Link { from: 0, to: 0 }; 64],
-    }
+    Ok(LinksFound {
+        count,
+        end: at,
+        links,
+    })
 }
 
 // The links end, after one at least, where the file ends or a demand's tag stands, 03 or 05.
@@ -155,48 +108,38 @@ fn links_end(file: &[u8], at: usize, count: usize) -> bool
     requires { at ≤ length file.now }
     ensures { result ≡ links_end file.now at count }
 {
-    if count == 0 {
-        return false;
-    }
-    if at == file.len() {
-        return true;
-    }
-    if file[at] == 3 {
-        return true;
-    }
-    file[at] == 5
+    count != 0 && (at == file.len() || file[at] == 3 || file[at] == 5)
 }
 
 // A link's field after `count` links: 2 where the file has ended, 1, 2, 3, then 5: the count, then the ends.
-fn check_link_field(file: &[u8], at: usize, count: usize) -> Checked
+fn check_link_field(file: &[u8], at: usize, count: usize) -> Result<(), Refusal>
     requires { at ≤ length file.now }
     ensures { result ≡ check_link_field file.now at count }
 {
     let size = file.len();
     if at == size {
-        return Checked::Refused(Refusal::WrongTag(size));
+        return Err(Refusal::WrongTag(size));
     }
-    let answer = check_field(file, at, 2, 2, 2);
-    if let Checked::Refused(why) = answer {
-        return Checked::Refused(why);
-    }
+    check_field(file, at, 2, 2, 2)?;
     if Request::MOST_LINKS <= count {
-        return Checked::Refused(Refusal::BadLink(at));
+        return Err(Refusal::BadLink(at));
     }
     if file[at + 3] == file[at + 4] {
-        return Checked::Refused(Refusal::BadLink(at));
+        return Err(Refusal::BadLink(at));
     }
-    Checked::Sound
+    Ok(())
 }
 
 // The demands one by one, from an offset to the end of the file.
+// Kept as it is: the slots, the links and their count go on to `test_demand`, which is public and takes them so; a struct of the three would
+// be made for two functions and taken apart there, which is no plainer. For the count of demands and the offset see `read_links`.
 fn read_demands(
     file: &[u8],
     start: usize,
     slots: u16,
     links: [Link; 64],
     link_count: usize,
-) -> DemandsFound
+) -> Result<DemandsFound, Refusal>
     requires { start ≤ length file.now }
     ensures { result ≡ pack_demands (read_demands 201 slots (take link_count links) file.now start []) }
 {
@@ -205,36 +148,15 @@ fn read_demands(
     let mut count = 0;
     let mut at = start;
     while at < file.len() {
-        let header = check_field(file, at, demand_tag(file, at), 5, 36);
-        if let Checked::Refused(why) = header {
-            return no_demands(why);
-        }
+        check_field(file, at, demand_tag(file, at), 5, 36)?;
         let demand = demand_in(file, at);
-        let answer = check_new_demand(demand, at, slots, links, link_count, &idents[..count]);
-        if let Checked::Refused(why) = answer {
-            return no_demands(why);
-        }
+        check_new_demand(demand, at, slots, links, link_count, &idents[..count])?;
         demands[count] = demand;
         idents[count] = demand.ident;
         count += 1;
         at = at + 7 + demand.hops;
     }
-    DemandsFound {
-        verdict: Checked::Sound,
-        count,
-        demands,
-    }
-}
-
-fn no_demands(why: Refusal) -> DemandsFound
-    ensures { result ≡ pack_demands (demands_refused why) }
-{
-    let demands = [empty_demand(); 200];
-    DemandsFound {
-        verdict: Checked::Refused(why),
-        count: 0,
-        demands,
-    }
+    Ok(DemandsFound { count, demands })
 }
 
 // A demand read at an offset after demands of these idents: which of its tests is told first in a file is decided here alone: 6, 8,
@@ -246,26 +168,26 @@ fn check_new_demand(
     links: [Link; 64],
     link_count: usize,
     earlier: &[u16],
-) -> Checked
+) -> Result<(), Refusal>
     ensures { result ≡ check_new_demand slots (take link_count links) earlier.now at (view_demand demand) }
 {
     let tests = test_demand(demand, slots, links, link_count, earlier);
     if Request::MOST_DEMANDS <= earlier.len() {
-        return Checked::Refused(Refusal::TooManyDemands(at));
+        return Err(Refusal::TooManyDemands(at));
     }
     if tests.used {
-        return Checked::Refused(Refusal::IdentUsed(at));
+        return Err(Refusal::IdentUsed(at));
     }
     if !tests.rate {
-        return Checked::Refused(Refusal::UnknownRate(at));
+        return Err(Refusal::UnknownRate(at));
     }
     if !tests.width {
-        return Checked::Refused(Refusal::BadWidth(at));
+        return Err(Refusal::BadWidth(at));
     }
     if !tests.route {
-        return Checked::Refused(Refusal::BadRoute(at));
+        return Err(Refusal::BadRoute(at));
     }
-    Checked::Sound
+    Ok(())
 }
 
 fn link_in(file: &[u8], at: usize) -> Link
@@ -298,10 +220,10 @@ fn asked_in(tag: u8, number: u16) -> Asked
 }
 
 fn demand_in(file: &[u8], at: usize) -> Demand
-    requires { check_field file.now at (demand_tag file.now at) 5 36 ≡ Checked.Sound }
+    requires { check_field file.now at (demand_tag file.now at) 5 36 ≡ Ok tt }
     ensures { result ≡ pack_demand (demand_in file.now at) }
 {
-    let hops = number_in(file, at + 1) as usize - 4;
+    let hops = usize::from(number_in(file, at + 1)) - 4;
     let links = route_in(file, at + 7, hops);
     Demand {
         ident: number_in(file, at + 3),
@@ -318,29 +240,6 @@ fn route_in(file: &[u8], from: usize, hops: usize) -> [u8; 32]
     ensures { result ≡ padded 32 0 (take hops (drop from file.now)) }
 {
     let mut route = [0u8; 32];
-    let mut i = 0;
-    while i < hops {
-        route[i] = file[from + i];
-        i += 1;
-    }
+    route[..hops].copy_from_slice(&file[from..from + hops]);
     route
-}
-
-// The number whose two's complement these bits are.
-fn signed(bits: u16) -> i16
-    ensures { result ≡ signed16 bits }
-{
-    if bits < 32768 {
-        bits as i16
-    } else {
-        below_zero(bits)
-    }
-}
-
-// With the highest bit set they are lowered by 65536.
-fn below_zero(bits: u16) -> i16
-    requires { 32768 ≤ bits }
-    ensures { result ≡ pos bits -ℤ pos 65536 }
-{
-    (bits as i32 - 65536) as i16
 }

@@ -93,29 +93,29 @@ impl Refusal {
         ensures { result ≡ place_of self }
     {
         match self {
-            Refusal::PastEnd(place) => place,
-            Refusal::WrongTag(place) => place,
-            Refusal::WrongLength(place) => place,
-            Refusal::BandOutside(place) => place,
-            Refusal::BadLink(place) => place,
-            Refusal::TooManyDemands(place) => place,
-            Refusal::BadRoute(place) => place,
-            Refusal::IdentUsed(place) => place,
-            Refusal::BadWidth(place) => place,
-            Refusal::BufferShort(place) => place,
-            Refusal::TooManyToSearch(place) => place,
-            Refusal::NotAnOrder(place) => place,
-            Refusal::NoStart(place) => place,
-            Refusal::UnknownIdent(place) => place,
-            Refusal::IdentSeen(place) => place,
-            Refusal::NoRow(place) => place,
-            Refusal::EndAbove(place) => place,
-            Refusal::Clash(place) => place,
-            Refusal::NoBlock(place) => place,
-            Refusal::FileTooLong(place) => place,
-            Refusal::UnknownRate(place) => place,
-            Refusal::GroupsOutside(place) => place,
-            Refusal::NoCertificate(place) => place,
+            Refusal::PastEnd(place)
+            | Refusal::WrongTag(place)
+            | Refusal::WrongLength(place)
+            | Refusal::BandOutside(place)
+            | Refusal::BadLink(place)
+            | Refusal::TooManyDemands(place)
+            | Refusal::BadRoute(place)
+            | Refusal::IdentUsed(place)
+            | Refusal::BadWidth(place)
+            | Refusal::BufferShort(place)
+            | Refusal::TooManyToSearch(place)
+            | Refusal::NotAnOrder(place)
+            | Refusal::NoStart(place)
+            | Refusal::UnknownIdent(place)
+            | Refusal::IdentSeen(place)
+            | Refusal::NoRow(place)
+            | Refusal::EndAbove(place)
+            | Refusal::Clash(place)
+            | Refusal::NoBlock(place)
+            | Refusal::FileTooLong(place)
+            | Refusal::UnknownRate(place)
+            | Refusal::GroupsOutside(place)
+            | Refusal::NoCertificate(place) => place,
         }
     }
 }

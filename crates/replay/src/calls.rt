@@ -1,4 +1,6 @@
-// The calls, a module for each. A call answers whether the body is one of its own; if so, its line has been printed.
+// The calls, a module for each. Each reads what it needs from its body and prints its line, unless the body is malformed.
+// Kept as it is: several begin alike, with the rooms or the entries that stand first in their bodies; each reads its body as docs/REPLAY.md
+// lists it, so that one can be held against the other line by line.
 mod block;
 mod bound;
 mod certificate;
@@ -14,11 +16,14 @@ mod search_orders;
 mod write_plan;
 mod write_request;
 
+use crate::body::{Body, Malformed};
 use std::io::Stdout;
 
-// Makes the call of this number. False, and nothing printed, where there is no such call or the body is not one of it.
-pub(crate) fn make_call(stdout: Stdout, op: u8, body: &[u8]) -> bool {
-    match op {
+// Makes the call of this number. Where there is no such call, or the body is not one of it, nothing is printed.
+pub(crate) fn make_call(stdout: Stdout, call: u8, body: &[u8]) -> Result<(), Malformed> {
+    let body = Body::of(body);
+    // Kept as it is: a table of the calls would be one of function pointers or dyn values, no plainer than a match on a number of the input.
+    match call {
         0x01 => read_request::answer(stdout, body),
         0x02 => check_request::answer(stdout, body),
         0x03 => write_request::answer(stdout, body),
@@ -33,6 +38,6 @@ pub(crate) fn make_call(stdout: Stdout, op: u8, body: &[u8]) -> bool {
         0x0C => group_orders::answer(stdout, body),
         0x20 => place_one::answer(stdout, body),
         0x21 => certificate::answer(stdout, body),
-        _ => false,
+        _ => Err(Malformed),
     }
 }

@@ -3,98 +3,87 @@
 // numbers stand with their high byte first.
 #![tactic(auto)]
 
-ghost use Rattle.std.specs.Prelude.{◌≡◌, length};
+use body::Malformed;
+use console::Why;
+use std::io;
+use std::io::{Error, ErrorKind, Read, Stdin};
 
-use buffers::held_bytes;
-use input::Body;
-use numbers::{byte_at, four_at};
-use std::io::{Error, Stdout};
-
-mod buffers;
+mod body;
 mod calls;
-mod input;
-mod numbers;
-mod raw;
 mod say;
-mod trouble;
 
-// Room for the longest body that the calls' own formats allow, 138,813 bytes, and then some.
-fn body_room() -> [u8; 139264]
-    ensures { 139264 ≡ length result }
-{
-    [0; 139264]
-}
-
-// A proved loop has to end, and nothing says that the input does. So the frames are counted down from a number that no run uses up.
-fn main(rt: HostRuntime) {
-    let mut room = body_room();
-    answer_all(rt, &mut room);
-}
-
-fn answer_all(rt: HostRuntime, room: &mut [u8]) {
-    let mut turns = u64::MAX;
-    while turns > 0 && answer_next(rt, room) {
-        turns -= 1;
-    }
-}
-
-// What became of a frame.
+// Why no further frame is answered: one is malformed, or the input cannot be read.
 #[derive(Drop)]
-enum Turn {
-    Answered,
+enum Trouble {
     Malformed,
-    Failed(Error),
+    Unread(Error),
 }
 
-// Answers the next frame, and says whether to go on: not where the input ends or cannot be read, and not behind a malformed frame.
-fn answer_next(rt: HostRuntime, room: &mut [u8]) -> bool {
+impl From<Malformed> for Trouble {
+    fn from(_malformed: Malformed) -> Trouble {
+        Trouble::Malformed
+    }
+}
+
+// A frame that the input ends in is malformed.
+impl From<Error> for Trouble {
+    fn from(error: Error) -> Trouble {
+        if error.kind() == ErrorKind::UnexpectedEof {
+            Trouble::Malformed
+        } else {
+            Trouble::Unread(error)
+        }
+    }
+}
+
+fn main(rt: HostRuntime) {
+    match answer_all(rt) {
+        Ok(()) => {}
+        Err(Trouble::Malformed) => say::line(rt.stdout(), "malformed"),
+        Err(Trouble::Unread(error)) => {
+            let _ = eprintln!(rt; "replay: standard input: {}", Why(&error));
+        }
+    }
+}
+
+// A proved loop has to end, and nothing says that the input does. So the frames are counted up to a number that no run reaches. There is
+// room for the longest body that the calls' own formats allow, 138,813 bytes, and then some.
+fn answer_all(rt: HostRuntime) -> Result<(), Trouble> {
+    let mut room = [0u8; 139264];
+    for _ in 0..u64::MAX {
+        if !answer_next(rt, &mut room)? {
+            return Ok(());
+        }
+    }
+    Ok(())
+}
+
+// Answers the next frame, and says whether there was one.
+fn answer_next(rt: HostRuntime, room: &mut [u8]) -> Result<bool, Trouble> {
     let mut head = [0u8; 5];
-    let got = input::read_input(rt.stdin(), &mut head);
-    if let Some(error) = got.failed {
-        return told(rt, Turn::Failed(error));
-    }
-    let count = got.count;
+    let count = io::copy(&mut rt.stdin().take(5), &mut &mut head[..])?;
     if count == 0 {
-        return false;
+        return Ok(false);
     }
-    told(rt, answer_frame(rt, &head[..count], room))
+    if count < 5 {
+        return Err(Trouble::Malformed);
+    }
+    let [call, a, b, c, d] = head;
+    let length = u32::from_be_bytes([a, b, c, d]) as usize;
+    let body = read_body(rt.stdin(), length, room)?;
+    calls::make_call(rt.stdout(), call, body)?;
+    Ok(true)
 }
 
-// Says why there is no answer, where there is none, and whether there is one.
-fn told(rt: HostRuntime, turn: Turn) -> bool {
-    match turn {
-        Turn::Answered => true,
-        Turn::Malformed => {
-            say::words(rt.stdout(), b"malformed\n");
-            false
-        }
-        Turn::Failed(error) => {
-            trouble::tell(rt.stderr(), b"replay: standard input", error);
-            false
-        }
+// Reads a body of this length, of which the room keeps the front; the rest is read and forgotten. A body that the room does not hold is
+// longer than any that a call takes, but for the file of a request, and the front of such a file is refused as the whole is.
+fn read_body<'a>(mut stdin: Stdin, length: usize, room: &'a mut [u8]) -> Result<&'a [u8], Trouble> {
+    let kept = length.min(room.len());
+    let front = &mut room[..kept];
+    stdin.read_exact(front)?;
+    let rest = (length - kept) as u64;
+    if io::copy(&mut stdin.take(rest), &mut io::sink())? < rest {
+        return Err(Trouble::Malformed);
     }
-}
-
-// Reads the body behind a head and answers the frame, if both are whole. A body that the room does not hold is longer than any that a
-// call takes, but for the file of a request, and the front of such a file is refused as the whole is.
-fn answer_frame(rt: HostRuntime, head: &[u8], room: &mut [u8]) -> Turn {
-    if head.len() < 5 {
-        return Turn::Malformed;
-    }
-    let length = four_at(head, 1) as usize;
-    match input::read_body(rt.stdin(), length, room) {
-        Body::Whole => answer_body(rt.stdout(), byte_at(head, 0), length, room),
-        Body::Cut => Turn::Malformed,
-        Body::Failed(error) => Turn::Failed(error),
-    }
-}
-
-// Makes the call of this number with the body of this length, of which the room keeps the front.
-fn answer_body(stdout: Stdout, call: u8, length: usize, room: &[u8]) -> Turn {
-    let kept = held_bytes(length, room);
-    if calls::make_call(stdout, call, &room[..kept]) {
-        Turn::Answered
-    } else {
-        Turn::Malformed
-    }
+    Ok(front)
 }

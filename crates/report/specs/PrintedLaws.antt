@@ -1,7 +1,7 @@
 -- Where there is a plan, a row is printed for each demand: none is left out.
 use Prim.Native.Nat.{ℕ, zero, suc, ◌+◌, ◌≤◌, ◌<◌}
 use mathlib.Core.List.{List, [], ◌∷◌, ◌++◌}
-use Rattle.std.specs.Prelude.{◌⊎◌, ◌≡◌, leb, get_or, take, drop}
+use Rattle.std.specs.Prelude.{◌⊎◌, ◌≡◌, leb, get_or, take, drop, Ok}
 use Rattle.std.proofs.Math.Logic.{⊎_elim}
 use Rattle.std.proofs.Math.Path.{ap, ap₂}
 use Rattle.std.proofs.Common.{subst, ◌∙◌, arith, add-one, leb-true, leb-false, drop_of_length-le, take_all}
@@ -13,7 +13,6 @@ use Rattle.theory.proofs.ProblemLaws.{end_is}
 use Rattle.theory.specs.Orders.{count_up, listing}
 use Rattle.theory.proofs.ListingLaws.{listing_mem, listing_length}
 use Rattle.request.specs.declared.Request.{Request}
-use Rattle.request.specs.declared.Checked.TheVariants as checked
 use Rattle.request.specs.View.{View, view, demand_at, width_of}
 use Rattle.request.specs.Check.{check}
 use Rattle.request.specs.Whole.{Whole}
@@ -26,7 +25,6 @@ use Rattle.meeting.specs.PlanLaws.{slots_to_ends}
 use Rattle.search.specs.declared.Outcome.{Outcome}
 use Rattle.search.specs.declared.Outcome.TheVariants.{Finished, Unfinished}
 use Rattle.search.specs.declared.Answer.{Answer}
-use Rattle.search.specs.declared.SearchReply.TheVariants as reply
 use Rattle.search.specs.Reply.{rooms_of, searched, check_search, search_reply, buffers_after}
 use Rattle.search.specs.ReplyLaws.{passed_searchable}
 use Rattle.search.specs.Demand3.{PlanShown, Promised, fronts}
@@ -61,14 +59,14 @@ enough K l e =
     (leb-true K (length l))
     (λ f. let short = leb-false K (length l) f in omega (arith, ap length (take_all K l (omega arith)), e))
 
-module _ (q : Request) (whole : Whole q) (a : Answer) (answered : search_reply (view q) 1000000 (20 ∷ 20 ∷ 20 ∷ []) ≡ reply.Answered a) where
+module _ (q : Request) (whole : Whole q) (a : Answer) (answered : search_reply (view q) 1000000 (20 ∷ 20 ∷ 20 ∷ []) ≡ Ok a) where
   abbrev v : View
   v = view q
 
   abbrev after : List ℕ
   after = (buffers_after v 1000000 twenty_zeros).starts
 
-  passes : check v ≡ checked.Sound
+  passes : check v ≡ Ok tt
   unfolding search_reply
   passes = (passed_searchable v (20 ∷ 20 ∷ 20 ∷ []) (answer_given (check_search v (20 ∷ 20 ∷ 20 ∷ [])) (searched v 1000000) a answered).0).sound
 

@@ -1,17 +1,14 @@
 -- What is printed for a request file.
-use Rattle.std.specs.Prelude.{ℕ, List, [], ◌∷◌, ◌++◌, replicate}
+use Rattle.std.specs.Prelude.{ℕ, List, [], ◌∷◌, ◌++◌, replicate, Result, Ok, Err}
 use Rattle.refusal.specs.declared.Refusal.{Refusal}
+use Rattle.request.specs.declared.Request.{Request}
 use Rattle.refusal.specs.Refusal.{number_of, place_of}
-use Rattle.request.specs.declared.Checked.{Checked}
-use Rattle.request.specs.declared.Checked.TheVariants as checked
 use Rattle.request.specs.View.{View, view}
 use Rattle.reading.specs.Reading.{read_file}
 use Rattle.reading.specs.FilePacking.{pack_reading}
 use Rattle.search.specs.declared.Outcome.{Outcome}
 use Rattle.search.specs.declared.Outcome.TheVariants.{Finished, NothingFits, Unfinished, UnfinishedEmpty}
 use Rattle.search.specs.declared.Answer.{Answer}
-use Rattle.search.specs.declared.SearchReply.{SearchReply}
-use Rattle.search.specs.declared.SearchReply.TheVariants as reply
 use Rattle.search.specs.Reply.{Buffers, buffers_of, outcome_end, search_reply, buffers_after}
 use Rattle.report.specs.Lines.{finished_word, nofit_word, unfinished_word, answer_line, refused_line}
 use Rattle.report.specs.Rows.{rows}
@@ -40,9 +37,9 @@ plan_text (Unfinished e) plan = plan
 plan_text UnfinishedEmpty plan = []
 
 -- a reply: the refusal, or the answer's line and the rows of its plan
-unfoldable pub reply_text : View → List ℕ → SearchReply → List ℕ
-reply_text v starts (reply.Refused why) = refusal_text why
-reply_text v starts (reply.Answered a) = answer_text a ++ plan_text a.outcome (rows v.band v.demands starts)
+unfoldable pub reply_text : View → List ℕ → Result Answer Refusal → List ℕ
+reply_text v starts (Err why) = refusal_text why
+reply_text v starts (Ok a) = answer_text a ++ plan_text a.outcome (rows v.band v.demands starts)
 
 -- the buffers that the program lends to the search: twenty zeros each
 unfoldable pub twenty_zeros : Buffers
@@ -53,12 +50,10 @@ unfoldable pub request_text : View → List ℕ
 request_text v = reply_text v (buffers_after v 1000000 twenty_zeros).starts (search_reply v 1000000 (20 ∷ 20 ∷ 20 ∷ []))
 
 -- what was read: the refusal, or the request's text
-unfoldable pub read_text : Checked → List ℕ → List ℕ
-read_text (checked.Refused why) text = refusal_text why
-read_text checked.Sound text = text
+unfoldable pub read_text : Result Request Refusal → List ℕ
+read_text (Err why) = refusal_text why
+read_text (Ok request) = request_text (view request)
 
 -- a file: it is read, and the request is searched
 unfoldable pub report_text : List ℕ → List ℕ
-report_text file =
-    let reading = pack_reading (read_file file) in
-    read_text reading.verdict (request_text (view reading.request))
+report_text file = read_text (pack_reading (read_file file))

@@ -1,11 +1,10 @@
 -- Laws of the rows: how small their numbers are, and how one stands behind the other.
-use Rattle.std.specs.Prelude.{ℕ, ◌+◌, ◌*◌, ◌<◌, ◌≤◌, List, [], ◌++◌, ◌≡◌, ℤ, pos, ◌*ℤ◌, length, drop, get_or}
+use Rattle.std.specs.Prelude.{ℕ, ◌+◌, ◌*◌, ◌<◌, ◌≤◌, List, [], ◌++◌, ◌≡◌, ℤ, pos, ◌*ℤ◌, length, drop, get_or, Ok, Err}
 use Rattle.std.proofs.Common.{ap, sym, ◌∙◌, arith, add-one, le-leb, drop_of_length-le, drop-cons}
 use Rattle.std.specs.Int.Signed.{mag}
 use Rattle.refusal.specs.declared.Refusal.{Refusal}
 use Rattle.grid.specs.declared.Band.{Band}
 use Rattle.grid.specs.declared.Frequency.{Frequency}
-use Rattle.grid.specs.declared.FrequencyReply.TheVariants.{Centred, Refused}
 use Rattle.grid.specs.Grid.{frequency_reply, central_number, central_mhz, frequency_of}
 use Rattle.grid.specs.ReplyLaws.{frequency_centred}
 use Rattle.grid.specs.GridLaws.{centres}
@@ -29,7 +28,7 @@ number_small n0 s w hn hs hw =
     (omega arith, omega (arith, mag_6250 n, mag_sum (pos 193100000) (pos 6250 *ℤ n)))
 
 -- and so have those of a block of the band
-pub frequency_small : (band : Band) (s w : ℕ) (f : Frequency) → frequency_reply band s w ≡ Centred f →
+pub frequency_small : (band : Band) (s w : ℕ) (f : Frequency) → frequency_reply band s w ≡ Ok f →
     mag band.n0 < 32768 → s < 65536 → w < 65536 → (mag f.n < 999999) × (mag f.mhz < 9999999999)
 frequency_small band s w f h hn hs hw = rw (centres band s w f h).is (number_small band.n0 s w hn hs hw)
 
@@ -41,13 +40,13 @@ unfolding rows demand_at
 rows_turn band demands starts k h g = rw (drop-cons demands k no_demand h, drop-cons starts k 0 g, add-one k)
 
 -- a demand's row is that of its block, and at most 39 bytes long
-pub row_centred : (band : Band) (d : DemandView) (start : ℕ) (f : Frequency) → frequency_reply band start (width_of d) ≡ Centred f →
+pub row_centred : (band : Band) (d : DemandView) (start : ℕ) (f : Frequency) → frequency_reply band start (width_of d) ≡ Ok f →
     demand_row band d start ≡ row_line d.ident start (start + width_of d) f.n f.mhz
 unfolding demand_row centred_row
 row_centred band d start f h = ap (centred_row d.ident start (start + width_of d)) h
 
 -- without a block there is no row
-pub row_none : (band : Band) (d : DemandView) (start : ℕ) (why : Refusal) → frequency_reply band start (width_of d) ≡ Refused why →
+pub row_none : (band : Band) (d : DemandView) (start : ℕ) (why : Refusal) → frequency_reply band start (width_of d) ≡ Err why →
     demand_row band d start ≡ []
 unfolding demand_row centred_row
 row_none band d start why h = ap (centred_row d.ident start (start + width_of d)) h

@@ -1,7 +1,9 @@
 -- Laws of decimal numbers and of pages.
 use Rattle.std.specs.Prelude.{ℕ, zero, suc, ◌+◌, ◌/◌, ◌%◌, ◌^◌, ◌≤◌, ◌<◌, List, [], ◌∷◌, ◌++◌, ◌≡◌, refl, length, set, ltb}
-use Rattle.std.proofs.Common.{ap, ap₂, ◌∙◌, arith, length-append, ltb-true, ltb-false, lt-ltb, le-ltb}
-use Rattle.std.proofs.lemmas.List.Edits.{sets}
+use Rattle.std.proofs.Common.{ap, ap₂, ◌∙◌, arith, append_assoc, length-append, ltb-true, ltb-false, lt-ltb, le-ltb}
+use Rattle.std.proofs.lemmas.List.{drop-drop}
+use Rattle.std.proofs.lemmas.List.Edits.{sets, sets-eq}
+use borrow.Rule.Slice.PartMut.{put_mid}
 use Rattle.theory.proofs.TestLaws.{by_test}
 use Rattle.report.specs.declared.Page.{Page}
 use Rattle.report.specs.Text.{digits, decimal, appended}
@@ -52,6 +54,10 @@ sets_sets : (l : List ℕ) (i : ℕ) (a b : List ℕ) → sets (sets l i a) (i +
 sets_sets l i [] b = ap (λ (n : ℕ). sets l n b) (omega arith)
 sets_sets l i (x ∷ a) b =
     ap (λ (n : ℕ). sets (sets (set l i x) (suc i) a) n b) (omega arith) ∙ sets_sets (set l i x) (suc i) a b
+
+-- what is copied into the middle of a page's bytes
+pub put_text : (l : List ℕ) (i k : ℕ) (text : List ℕ) → i + length text ≤ length l → k ≡ length text → put_mid i k l text ≡ sets l i text
+put_text l i k text fits same = rw (same, sets-eq text l i fits, append_assoc, drop-drop (length text) i l)
 
 -- a page is longer by the text that came to it
 pub appended_length : (page : Page) (text : List ℕ) → (appended page text).len ≡ page.len + length text

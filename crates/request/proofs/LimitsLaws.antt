@@ -1,10 +1,9 @@
 -- A sound request keeps its limits.
-use Rattle.std.specs.Prelude.{ℕ, ◌≤◌, ◌<◌, true, ◌&&◌, ◌≡◌, get_or, leb}
+use Rattle.std.specs.Prelude.{ℕ, ◌≤◌, ◌<◌, true, ◌&&◌, ◌≡◌, get_or, leb, Ok}
 use Rattle.std.proofs.Common.{arith, leb-true, get_or-take}
 use Rattle.grid.specs.declared.Band.{Band}
 use Rattle.grid.specs.Grid.{allowed_edge, allowed_slots, allowed_guard, allowed_band}
 use Rattle.request.specs.declared.Request.{Request}
-use Rattle.request.specs.declared.Checked.TheVariants.{Sound}
 use Rattle.request.specs.View.{View, view_demand, view, link_at, no_entry}
 use Rattle.request.specs.Check.{check}
 use Rattle.request.specs.Sound.{SoundDemand, SoundRequest}
@@ -46,12 +45,12 @@ sound_limits v counted sound =
     }
 
 -- a request that the test finds sound keeps its limits
-pub checked_limits : (r : Request) → Whole r → check (view r) ≡ Sound → Limits (view r)
+pub checked_limits : (r : Request) → Whole r → check (view r) ≡ Ok tt → Limits (view r)
 checked_limits r whole sound =
     sound_limits (view r) (whole_counted r whole) (check_sound (view r) (whole_counted r whole) sound)
 
 -- and so does each of its demands
-pub checked_demands : (r : Request) → Whole r → check (view r) ≡ Sound → AllLimits r
+pub checked_demands : (r : Request) → Whole r → check (view r) ≡ Ok tt → AllLimits r
 unfolding view view_demand
 checked_demands r whole sound =
     let is-sound = check_sound (view r) (whole_counted r whole) sound in

@@ -1,5 +1,6 @@
 -- The tests of a route say what holds position by position.
 use Rattle.std.specs.Prelude.{ℕ, zero, suc, ◌+◌, ◌-◌, ◌≤◌, ◌<◌, Bool, true, false, not, ◌&&◌, ◌||◌, List, [], ◌∷◌, ◌≢◌, ◌≡◌, refl, length, take, get_or, set, ltb, eqb}
+use Rattle.std.specs.List.{list_any}
 use Rattle.std.proofs.Math.Bool.{or-true}
 use Rattle.std.proofs.Common.{sym, ◌∙◌, ap, subst, arith, add-one, ltb-true, ltb-false, lt-ltb, eqb-true, eq-eqb, ne_eqb, below_more, length-set, length-take-le, get_or-take, get_or-set_same, get_or-set_other}
 use Rattle.std.proofs.lemmas.Bool.{eqb-false, not-true}
@@ -32,6 +33,19 @@ unfolding has
 has_at x [] i h e = absurd (omega arith)
 has_at x (y ∷ ys) zero h e = ap (λ (b : Bool). b || has x ys) (eq-eqb x y e)
 has_at x (y ∷ ys) (suc i) h e = rw (has_at x ys i (omega arith) e) (or-true (eqb x y))
+
+-- two numbers are compared either way round
+either_way : (x y : ℕ) → eqb x y ≡ eqb y x
+either_way x y =
+    by_test (eqb y x)
+    (λ t. rw t (eq-eqb x y (sym (eqb-true y x t))))
+    (λ t. rw t (ne_eqb x y (λ e. eqb-false y x t (sym e))))
+
+-- a number stands in a list where some entry is that number
+pub has_some : (x : ℕ) (xs : List ℕ) → list_any (λ (y : ℕ). eqb y x) xs ≡ has x xs
+unfolding has
+has_some x [] = refl
+has_some x (y ∷ ys) = rw (has_some x ys, either_way y x)
 
 -- a number that no position below n has does not stand in the first n of a list
 pub none_early : (x : ℕ) (xs : List ℕ) (n : ℕ) → n ≤ length xs → ((i : ℕ) → i < n → x ≡ get_or xs i 0 → ⊥) → has x (take n xs) ≡ false

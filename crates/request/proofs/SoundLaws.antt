@@ -1,5 +1,5 @@
 -- The test says sound exactly for sound requests.
-use Rattle.std.specs.Prelude.{ℕ, zero, suc, ◌+◌, ◌≤◌, ◌<◌, Bool, true, false, cond, List, [], ◌∷◌, ◌++◌, ◌≢◌, ◌≡◌, refl, length, take, get_or, leb, ltb, eqb}
+use Rattle.std.specs.Prelude.{ℕ, zero, suc, ◌+◌, ◌≤◌, ◌<◌, Bool, true, false, cond, List, [], ◌∷◌, ◌++◌, ◌≢◌, ◌≡◌, refl, length, take, get_or, leb, ltb, eqb, Result, Ok, Err}
 use Rattle.std.proofs.Common.{append_assoc, append-nil, sym, ◌∙◌, ap, arith, le-leb, ne_eqb, ltb-true, ltb-false, length-take-le}
 use Rattle.std.proofs.lemmas.Bool.{eqb-false}
 use Rattle.std.proofs.Math.ListN.{get_or-eq_default}
@@ -8,8 +8,6 @@ use Rattle.refusal.specs.declared.Refusal.TheVariants.{WrongTag, WrongLength, Ba
 use Rattle.grid.specs.Grid.{allowed_band, allowed_width}
 use Rattle.request.specs.declared.Link.{Link}
 use Rattle.request.specs.declared.Request.{Request}
-use Rattle.request.specs.declared.Checked.{Checked}
-use Rattle.request.specs.declared.Checked.TheVariants.{Sound, Refused}
 use Rattle.request.specs.View.{DemandView, View, view, view_demand, link_at, demand_at, no_entry, no_demand, idents, width_of, asked_width}
 use Rattle.request.specs.Check.{then, has, sound_route, allowed_hops, check_band, check_some_link, check_links, check_link_count, check_demand, check_demands, check_demand_count, check, known_asked}
 use Rattle.request.specs.Sound.{SoundDemand, SoundRequest}
@@ -22,55 +20,55 @@ use Rattle.request.proofs.RouteLaws.{none_early, early_none, sound_holds, holds_
 use Rattle.request.proofs.CheckLaws.{then_sound, first_sound, next_sound, band_passes, some_link_lem, few_links, links_counted, few_demands, width_allowed, hops_allowed, demand_passes}
 
 -- a refusal is not sound
-refused_not_sound : {C : Type 0} (why : Refusal) → Refused why ≡ Sound → C
+refused_not_sound : {C : Type 0} (why : Refusal) → ◌≡◌ {A = Result Unit Refusal} (Err why) (Ok tt) → C
 refused_not_sound why h = absurd (let z : ◌≡◌ {A = ℕ} 0 1 = cc in omega arith)
 
 -- a choice between refusal and sound that is sound had a test that failed
-pub not_refused : (b : Bool) (why : Refusal) → cond b (Refused why) Sound ≡ Sound → b ≡ false
+pub not_refused : (b : Bool) (why : Refusal) → cond {A = Result Unit Refusal} b (Err why) (Ok tt) ≡ Ok tt → b ≡ false
 not_refused true why h = refused_not_sound why h
 not_refused false why h = refl
 
 -- a choice between sound and refusal that is sound had a test that held
-pub passed : (b : Bool) (why : Refusal) → cond b Sound (Refused why) ≡ Sound → b ≡ true
+pub passed : (b : Bool) (why : Refusal) → cond {A = Result Unit Refusal} b (Ok tt) (Err why) ≡ Ok tt → b ≡ true
 passed true why h = refl
 passed false why h = refused_not_sound why h
 
 -- where the links pass, each is between two nodes
-links_two_nodes : (i : ℕ) (links : List Link) → check_links i links ≡ Sound → (k : ℕ) → k < length links →
+links_two_nodes : (i : ℕ) (links : List Link) → check_links i links ≡ Ok tt → (k : ℕ) → k < length links →
     (link_at links k).from ≢ (link_at links k).to
 unfolding check_links link_at
 links_two_nodes i [] sound k h same = omega arith
 links_two_nodes i (l ∷ links) sound zero h same =
     eqb-false l.from l.to
     (not_refused (eqb l.from l.to) (BadLink i)
-    (first_sound (cond (eqb l.from l.to) (Refused (BadLink i)) Sound) (check_links (i + 1) links) sound)) same
+    (first_sound (cond (eqb l.from l.to) (Err (BadLink i)) (Ok tt)) (check_links (i + 1) links) sound)) same
 links_two_nodes i (l ∷ links) sound (suc k) h same =
     links_two_nodes (i + 1) links
-    (next_sound (cond (eqb l.from l.to) (Refused (BadLink i)) Sound) (check_links (i + 1) links) sound) k (omega arith) same
+    (next_sound (cond (eqb l.from l.to) (Err (BadLink i)) (Ok tt)) (check_links (i + 1) links) sound) k (omega arith) same
 
 -- links that are each between two nodes pass
 two_nodes_pass : (i : ℕ) (links : List Link) → ((k : ℕ) → k < length links → (link_at links k).from ≢ (link_at links k).to) →
-    check_links i links ≡ Sound
+    check_links i links ≡ Ok tt
 unfolding check_links link_at
 two_nodes_pass i [] each = refl
 two_nodes_pass i (l ∷ links) each =
-    then_sound (cond (eqb l.from l.to) (Refused (BadLink i)) Sound) (check_links (i + 1) links)
-    (ap (λ (b : Bool). cond b (Refused (BadLink i)) Sound) (ne_eqb l.from l.to (each 0 (omega arith)))) ∙
+    then_sound (cond (eqb l.from l.to) (Err (BadLink i)) (Ok tt)) (check_links (i + 1) links)
+    (ap (λ (b : Bool). cond b (Err (BadLink i)) (Ok tt)) (ne_eqb l.from l.to (each 0 (omega arith)))) ∙
     two_nodes_pass (i + 1) links (λ (k : ℕ) (h : k < length links). each (suc k) (omega arith))
 
 -- a demand that is found sound has passed
 pub sound_passes : (S : ℕ) (links : List Link) (earlier : List ℕ) (i : ℕ) (d : DemandView) →
-    check_demand S links earlier i d ≡ Sound → Passes S links earlier d
+    check_demand S links earlier i d ≡ Ok tt → Passes S links earlier d
 unfolding check_demand
 sound_passes S links earlier i d sound =
-    let ident = cond (has d.ident earlier) (Refused (IdentUsed i)) Sound in
-    let rate = cond (known_asked d.asked) Sound (Refused (UnknownRate i)) in
-    let width = cond (allowed_width S (width_of d)) Sound (Refused (BadWidth i)) in
-    let hops = cond (allowed_hops d.hops) Sound (Refused (WrongLength i)) in
-    let route = cond (sound_route links d.route) Sound (Refused (BadRoute i)) in
-    let from-rate : then rate (then width (then hops route)) ≡ Sound = next_sound ident (then rate (then width (then hops route))) sound in
-    let from-width : then width (then hops route) ≡ Sound = next_sound rate (then width (then hops route)) from-rate in
-    let from-hops : then hops route ≡ Sound = next_sound width (then hops route) from-width in
+    let ident = cond (has d.ident earlier) (Err (IdentUsed i)) (Ok tt) in
+    let rate = cond (known_asked d.asked) (Ok tt) (Err (UnknownRate i)) in
+    let width = cond (allowed_width S (width_of d)) (Ok tt) (Err (BadWidth i)) in
+    let hops = cond (allowed_hops d.hops) (Ok tt) (Err (WrongLength i)) in
+    let route = cond (sound_route links d.route) (Ok tt) (Err (BadRoute i)) in
+    let from-rate : then rate (then width (then hops route)) ≡ Ok tt = next_sound ident (then rate (then width (then hops route))) sound in
+    let from-width : then width (then hops route) ≡ Ok tt = next_sound rate (then width (then hops route)) from-rate in
+    let from-hops : then hops route ≡ Ok tt = next_sound width (then hops route) from-width in
     record {
       ident_new = not_refused (has d.ident earlier) (IdentUsed i) (first_sound ident (then rate (then width (then hops route))) sound);
       asked_known = passed (known_asked d.asked) (UnknownRate i) (first_sound rate (then width (then hops route)) from-rate);
@@ -81,7 +79,7 @@ sound_passes S links earlier i d sound =
 
 -- where the demands pass, each passes after the idents before it
 demands_each : (S : ℕ) (links : List Link) (earlier : List ℕ) (i : ℕ) (demands : List DemandView) →
-    check_demands S links earlier i demands ≡ Sound → (k : ℕ) → k < length demands →
+    check_demands S links earlier i demands ≡ Ok tt → (k : ℕ) → k < length demands →
     Passes S links (earlier ++ take k (idents demands)) (demand_at demands k)
 unfolding check_demands demand_at idents
 demands_each S links earlier i [] sound k h = absurd (omega arith)
@@ -97,7 +95,7 @@ demands_each S links earlier i (d ∷ demands) sound (suc k) h =
 -- demands that each pass after the idents before them pass together
 each_demands : (S : ℕ) (links : List Link) (earlier : List ℕ) (i : ℕ) (demands : List DemandView) →
     ((k : ℕ) → k < length demands → Passes S links (earlier ++ take k (idents demands)) (demand_at demands k)) →
-    check_demands S links earlier i demands ≡ Sound
+    check_demands S links earlier i demands ≡ Ok tt
 unfolding check_demands demand_at idents
 each_demands S links earlier i [] each = refl
 each_demands S links earlier i (d ∷ demands) each =
@@ -158,14 +156,14 @@ sound_demand_passes S count links earlier d all routed new sound =
     }
 
 -- six checks that each pass pass together
-pub all_pass : (a b c d e f : Checked) → a ≡ Sound → b ≡ Sound → c ≡ Sound → d ≡ Sound → e ≡ Sound → f ≡ Sound →
-    then a (then b (then c (then d (then e f)))) ≡ Sound
+pub all_pass : (a b c d e f : Result Unit Refusal) → a ≡ Ok tt → b ≡ Ok tt → c ≡ Ok tt → d ≡ Ok tt → e ≡ Ok tt → f ≡ Ok tt →
+    then a (then b (then c (then d (then e f)))) ≡ Ok tt
 unfolding then
 all_pass a b c d e f ha hb hc hd he hf = rw (ha, hb, hc, hd, he) hf
 
 -- where six checks pass together, each passes
-pub each_passes : (a b c d e f : Checked) → then a (then b (then c (then d (then e f)))) ≡ Sound →
-    (a ≡ Sound) × (b ≡ Sound) × (c ≡ Sound) × (d ≡ Sound) × (e ≡ Sound) × (f ≡ Sound)
+pub each_passes : (a b c d e f : Result Unit Refusal) → then a (then b (then c (then d (then e f)))) ≡ Ok tt →
+    (a ≡ Ok tt) × (b ≡ Ok tt) × (c ≡ Ok tt) × (d ≡ Ok tt) × (e ≡ Ok tt) × (f ≡ Ok tt)
 each_passes a b c d e f h =
     let from-b = next_sound a (then b (then c (then d (then e f)))) h in
     let from-c = next_sound b (then c (then d (then e f))) from-b in
@@ -180,7 +178,7 @@ each_passes a b c d e f h =
     )
 
 -- a request that the test finds sound is sound
-pub check_sound : (v : View) → Counted v → check v ≡ Sound → SoundRequest v
+pub check_sound : (v : View) → Counted v → check v ≡ Ok tt → SoundRequest v
 unfolding check check_band check_some_link check_demand_count
 check_sound v counted sound =
     let each =
@@ -209,7 +207,7 @@ check_sound v counted sound =
     }
 
 -- of a request that the test finds sound each demand has passed
-demand_passed : (v : View) → check v ≡ Sound → (k : ℕ) → k < length v.demands →
+demand_passed : (v : View) → check v ≡ Ok tt → (k : ℕ) → k < length v.demands →
     Passes v.band.slots v.links (take k (idents v.demands)) (demand_at v.demands k)
 unfolding check
 demand_passed v sound k h =
@@ -219,12 +217,12 @@ demand_passed v sound k h =
     demands_each v.band.slots v.links [] 0 v.demands each.4 k h
 
 -- and has a sound route
-pub routes_sound : (v : View) → check v ≡ Sound → (k : ℕ) → k < length v.demands →
+pub routes_sound : (v : View) → check v ≡ Ok tt → (k : ℕ) → k < length v.demands →
     sound_route v.links (demand_at v.demands k).route ≡ true
 routes_sound v sound k h = (demand_passed v sound k h).route_sound
 
 -- no demand of a request that the test finds sound is wider than the band
-pub width_inside : (v : View) → check v ≡ Sound → (k : ℕ) → width_of (demand_at v.demands k) ≤ v.band.slots
+pub width_inside : (v : View) → check v ≡ Ok tt → (k : ℕ) → width_of (demand_at v.demands k) ≤ v.band.slots
 unfolding demand_at width_of asked_width
 width_inside v sound k =
     by_test (ltb k (length v.demands))
@@ -234,7 +232,7 @@ width_inside v sound k =
     (λ f. rw (get_or-eq_default v.demands no_demand (ltb-false k (length v.demands) f)) (omega arith))
 
 -- the test finds a sound request sound
-pub sound_check : (v : View) → Counted v → SoundRequest v → check v ≡ Sound
+pub sound_check : (v : View) → Counted v → SoundRequest v → check v ≡ Ok tt
 unfolding check
 sound_check v counted sound =
     let all = counted.links_counted sound.at_most_64_links in
@@ -272,5 +270,5 @@ whole_counted r whole =
     }
 
 -- for every request: the test finds it sound exactly where it is
-pub sound_exactly : (r : Request) → Whole r → (check (view r) ≡ Sound → SoundRequest (view r)) × (SoundRequest (view r) → check (view r) ≡ Sound)
+pub sound_exactly : (r : Request) → Whole r → (check (view r) ≡ Ok tt → SoundRequest (view r)) × (SoundRequest (view r) → check (view r) ≡ Ok tt)
 sound_exactly r whole = (check_sound (view r) (whole_counted r whole), sound_check (view r) (whole_counted r whole))

@@ -1,5 +1,5 @@
 -- The answer of the test, as the steps of the code meet it.
-use Rattle.std.specs.Prelude.{ℕ, ◌+◌, ◌≤◌, ◌<◌, true, false, List, [], ◌∷◌, ◌++◌, ◌≢◌, ◌≡◌, length, drop, set}
+use Rattle.std.specs.Prelude.{ℕ, ◌+◌, ◌≤◌, ◌<◌, true, false, List, [], ◌∷◌, ◌++◌, ◌≢◌, ◌≡◌, length, drop, set, Result, Ok, Err}
 use Rattle.std.proofs.Common.{sym, ◌∙◌, arith, add-one, take-suc-set}
 use Rattle.std.proofs.Math.Path.{ap}
 use Rattle.std.proofs.Math.ListN.{take, get_or, length-set}
@@ -9,8 +9,6 @@ use Rattle.grid.specs.declared.Band.{Band}
 use Rattle.grid.specs.Grid.{allowed_band}
 use Rattle.request.specs.declared.Link.{Link}
 use Rattle.request.specs.declared.Request.{Request}
-use Rattle.request.specs.declared.Checked.{Checked}
-use Rattle.request.specs.declared.Checked.TheVariants.{Sound, Refused}
 use Rattle.request.specs.View.{View, view, view_demand, demand_at, no_entry}
 use Rattle.request.specs.Check.{then, check_band, check_some_link, check_links, check_link_count, check_demand, check_demands, check_demand_count, check}
 use Rattle.request.specs.Steps.{check_all_links, check_ground}
@@ -27,11 +25,11 @@ ground_first v =
     let links = check_links 0 v.links in
     let count = check_link_count v.link_count in
     let rest = check_from v [] 0 in
-    ap (λ (c : Checked). then band (then some c)) (then_assoc links count rest) ∙
-    (ap (λ (c : Checked). then band c) (then_assoc some (then links count) rest) ∙ then_assoc band (then some (then links count)) rest)
+    ap (λ (c : Result Unit Refusal). then band (then some c)) (then_assoc links count rest) ∙
+    (ap (λ (c : Result Unit Refusal). then band c) (then_assoc some (then links count) rest) ∙ then_assoc band (then some (then links count)) rest)
 
 -- where there is no link, 2 at place 0
-pub no_link_refused : (count : ℕ) (links : List Link) → count ≡ 0 → check_all_links count links ≡ Refused (WrongTag 0)
+pub no_link_refused : (count : ℕ) (links : List Link) → count ≡ 0 → check_all_links count links ≡ Err (WrongTag 0)
 unfolding check_all_links
 no_link_refused count links h =
     then_refused (check_some_link count) (then (check_links 0 links) (check_link_count count)) (WrongTag 0) (no_link_lem count h)
@@ -42,21 +40,21 @@ unfolding check_all_links
 some_links count links h = then_sound (check_some_link count) (then (check_links 0 links) (check_link_count count)) (some_link_lem count h)
 
 -- a link that is refused
-pub links_refused_lem : (count : ℕ) (links : List Link) (k : ℕ) → count ≢ 0 → check_links 0 links ≡ Refused (BadLink k) →
-    check_all_links count links ≡ Refused (BadLink k)
+pub links_refused_lem : (count : ℕ) (links : List Link) (k : ℕ) → count ≢ 0 → check_links 0 links ≡ Err (BadLink k) →
+    check_all_links count links ≡ Err (BadLink k)
 links_refused_lem count links k some refused =
     some_links count links some ∙ then_refused (check_links 0 links) (check_link_count count) (BadLink k) refused
 
 -- one link too many
-pub links_too_many : (count : ℕ) (links : List Link) → check_links 0 links ≡ Sound → 64 < count →
-    check_all_links count links ≡ Refused (BadLink 64)
+pub links_too_many : (count : ℕ) (links : List Link) → check_links 0 links ≡ Ok tt → 64 < count →
+    check_all_links count links ≡ Err (BadLink 64)
 links_too_many count links sound many =
     some_links count links (λ (z : count ≡ 0). omega arith) ∙
     (then_sound (check_links 0 links) (check_link_count count) sound ∙ too_many_links count many)
 
 -- links that all pass
-pub links_pass : (count : ℕ) (links : List Link) → count ≢ 0 → check_links 0 links ≡ Sound → count ≤ 64 →
-    check_all_links count links ≡ Sound
+pub links_pass : (count : ℕ) (links : List Link) → count ≢ 0 → check_links 0 links ≡ Ok tt → count ≤ 64 →
+    check_all_links count links ≡ Ok tt
 links_pass count links some sound few =
     some_links count links some ∙ (then_sound (check_links 0 links) (check_link_count count) sound ∙ few_links count few)
 
@@ -68,13 +66,13 @@ ground_links band count links h = then_sound (check_band band) (check_all_links 
 
 -- a band that is not allowed is refused
 pub ground_band : (band : Band) (count : ℕ) (links : List Link) → allowed_band band ≡ false →
-    check_ground band count links ≡ Refused (BandOutside 0)
+    check_ground band count links ≡ Err (BandOutside 0)
 unfolding check_ground
 ground_band band count links h = then_refused (check_band band) (check_all_links count links) (BandOutside 0) (band_refused band h)
 
 -- where the band or a link is refused, so is the request
 pub ground_refused : (r : Request) (why : Refusal) →
-    check_ground r.band r.link_count (take r.link_count r.links) ≡ Refused why → check (view r) ≡ Refused why
+    check_ground r.band r.link_count (take r.link_count r.links) ≡ Err why → check (view r) ≡ Err why
 unfolding view
 ground_refused r why refused =
     ground_first (view r) ∙
@@ -82,7 +80,7 @@ ground_refused r why refused =
 
 -- where they pass, the demands are looked at, from the first on
 pub ground_passes : (r : Request) (idents : List ℕ) → length idents ≡ 200 →
-    check_ground r.band r.link_count (take r.link_count r.links) ≡ Sound → Met r idents 0
+    check_ground r.band r.link_count (take r.link_count r.links) ≡ Ok tt → Met r idents 0
 unfolding view
 ground_passes r idents room sound =
     record {
@@ -96,7 +94,7 @@ ground_passes r idents room sound =
 
 module _ (r : Request) (idents : List ℕ) (k : ℕ) (met : Met r idents k) (all : length r.demands ≡ 200) where
   -- behind 200 demands another is one too many
-  pub met_too_many : k ≡ 200 → k < r.demand_count → check (view r) ≡ Refused (TooManyDemands 200)
+  pub met_too_many : k ≡ 200 → k < r.demand_count → check (view r) ≡ Err (TooManyDemands 200)
   unfolding view check_from
   met_too_many full more =
       met.answer ∙
@@ -105,7 +103,7 @@ module _ (r : Request) (idents : List ℕ) (k : ℕ) (met : Met r idents k) (all
       too_many_demands r.demand_count (omega arith))
 
   -- behind the last demand the request is sound
-  pub met_all : r.demand_count ≤ k → check (view r) ≡ Sound
+  pub met_all : r.demand_count ≤ k → check (view r) ≡ Ok tt
   unfolding view check_from
   met_all last =
       met.answer ∙
@@ -116,8 +114,8 @@ module _ (r : Request) (idents : List ℕ) (k : ℕ) (met : Met r idents k) (all
   -- where the next demand is refused, so is the request
   pub met_refused : (why : Refusal) → k < r.demand_count → k < 200 →
       check_demand r.band.slots (view r).links (take k idents) k
-      (view_demand (get_or r.demands k no_entry)) ≡ Refused why →
-      check (view r) ≡ Refused why
+      (view_demand (get_or r.demands k no_entry)) ≡ Err why →
+      check (view r) ≡ Err why
   unfolding view check_from
   met_refused why more room refused =
       met.answer ∙
@@ -129,7 +127,7 @@ module _ (r : Request) (idents : List ℕ) (k : ℕ) (met : Met r idents k) (all
   -- where it passes, its ident is kept and the one behind it is next
   pub met_on : k < r.demand_count → k < 200 →
       check_demand r.band.slots (view r).links (take k idents) k
-      (view_demand (get_or r.demands k no_entry)) ≡ Sound →
+      (view_demand (get_or r.demands k no_entry)) ≡ Ok tt →
       Met r (set idents k (get_or r.demands k no_entry).ident) (k + 1)
   unfolding view check_from view_demand
   met_on more room sound =
@@ -147,10 +145,10 @@ module _ (r : Request) (idents : List ℕ) (k : ℕ) (met : Met r idents k) (all
         room = length-set idents k demand.ident ∙ met.room;
         answer =
             met.answer ∙
-            ap (λ (c : Checked). then c (check_demand_count r.demand_count)) on;
+            ap (λ (c : Result Unit Refusal). then c (check_demand_count r.demand_count)) on;
       }
 
 -- two results of the test of the band and the links are equal
-pub same_ground : (band : Band) (count : ℕ) (links : List Link) (a b : Checked) →
+pub same_ground : (band : Band) (count : ℕ) (links : List Link) (a b : Result Unit Refusal) →
     a ≡ check_ground band count (take count links) → b ≡ check_ground band count (take count links) → a ≡ b
 same_ground band count links a b ha hb = ha ∙ sym hb

@@ -69,3 +69,7 @@ ident_at demands k = get_or-map (λ (d : DemandView). d.ident) demands k no_dema
 pub idents_more : (before : List DemandView) (d : DemandView) → idents (before ++ (d ∷ [])) ≡ idents before ++ (d.ident ∷ [])
 unfolding idents
 idents_more before d = map-append (λ (x : DemandView). x.ident) before (d ∷ [])
+
+-- two results that meet the contract of `route` are equal
+pub same_route : (d : Demand) (a b : List ℕ) → a ≡ (view_demand d).route → b ≡ (view_demand d).route → a ≡ b
+same_route d a b h k = h ∙ sym k

@@ -13,7 +13,7 @@ padded size empty xs = xs ++ replicate (size - length xs) empty
 unfoldable pub empty_demand : Demand
 empty_demand = record { ident = 0; asked = Width 0; hops = 0; links = replicate 32 0 }
 
--- the empty request, which stands beside a refusal: nothing in it, every number 0
+-- the empty request: nothing in it, every number 0
 unfoldable pub empty_request : Request
 unfolding no_link empty_demand
 empty_request =

@@ -1,6 +1,5 @@
 -- Requests and files, there and back: what the promises speak of.
-use Rattle.std.specs.Prelude.{ℕ, ◌<◌, List, ◌≡◌, length, get_or}
-use Rattle.request.specs.declared.Checked.TheVariants.{Sound}
+use Rattle.std.specs.Prelude.{ℕ, ◌<◌, List, ◌≡◌, length, get_or, Ok}
 use Rattle.request.specs.View.{View, demand_at}
 use Rattle.request.specs.Check.{check}
 use Rattle.request.specs.Whole.{Counted}
@@ -17,6 +16,6 @@ pub record Idents16 (v : View) : Type 0 where
 -- what an accepted file is: the encoding of a sound request whose lists are as long as it says
 pub record Accepted (s : List ℕ) (v : View) : Type 0 where
   pub encoded : s ≡ encode v
-  pub sound : check v ≡ Sound
+  pub sound : check v ≡ Ok tt
   pub counted : Counted v
   pub idents : Idents16 v

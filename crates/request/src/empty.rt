@@ -5,7 +5,8 @@ ghost use Rattle.request.specs.Packing.{empty_demand, empty_request};
 use crate::{Asked, Demand, Link, Request};
 use grid::Band;
 
-// The request that stands beside a refusal: nothing in it, and every number 0.
+// The empty request: nothing in it, and every number 0.
+#[tactic(auto, unfolding(crate::specs::Packing::empty_request, crate::specs::Packing::empty_demand))]
 pub fn empty_request() -> Request
     ensures { result ≡ empty_request }
 {
@@ -26,6 +27,7 @@ pub fn empty_request() -> Request
 }
 
 // What fills an array of demands behind the last one.
+#[tactic(auto, unfolding(crate::specs::Packing::empty_demand))]
 pub fn empty_demand() -> Demand
     ensures { result ≡ empty_demand }
 {

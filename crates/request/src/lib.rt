@@ -1,6 +1,9 @@
 // Requests: a band, its links and the demands on them.
 #![tactic(auto)]
 
+ghost use Rattle.std.specs.Prelude.{◌≡◌, ◌≤◌, length};
+ghost use Rattle.request.specs.View.{view_demand};
+
 use grid::Band;
 use refusal::Refusal;
 
@@ -31,6 +34,7 @@ pub enum Asked {
 
 // A circuit asked for: its own number, what it asks for, from which its width in slots follows, and its route: the first `hops` entries
 // of `links`, each a link's number. Entries behind `hops` mean nothing.
+// Kept as it is: a public type of fixed memory, as there is no heap; `hops` beyond 32 are a value that `check_request` refuses by 3.
 #[derive(Clone, Copy)]
 pub struct Demand {
     pub ident: u16,
@@ -40,6 +44,8 @@ pub struct Demand {
 }
 
 // A request. It goes by value, so that every call has one parameter for it. Entries behind a count mean nothing.
+// Kept as it is: a public type of fixed memory, as there is no heap; counts beyond 64 and 200 are values that `check_request` refuses, by 5
+// and 6.
 #[derive(Clone, Copy)]
 pub struct Request {
     pub band: Band,
@@ -47,13 +53,6 @@ pub struct Request {
     pub links: [Link; 64],
     pub demand_count: usize,
     pub demands: [Demand; 200],
-}
-
-// Whether a request is sound, or why it is refused.
-#[derive(Drop)]
-pub enum Checked {
-    Sound,
-    Refused(Refusal),
 }
 
 // What each test of a demand says: whether its ident was used before, whether its rate, if it asks for one, is in the table, and whether
@@ -67,11 +66,16 @@ pub struct DemandTests {
     pub route: bool,
 }
 
-// How many bytes were written, or why none.
-#[derive(Drop)]
-pub enum Written {
-    Wrote(usize),
-    Refused(Refusal),
+impl Demand {
+    // The route: as many of the first entries of `links` as `hops` says, and all of them where it says more.
+    #[tactic(auto, unfolding(crate::specs::View::view_demand))]
+    pub fn route(&self) -> &[u8]
+        ensures route { result.now ≡ (view_demand self.now).route }
+        ensures room { length result.now ≤ 32 }
+    {
+        let hops = self.hops.min(Request::MOST_HOPS);
+        &self.links[..hops]
+    }
 }
 
 impl Request {

@@ -12,29 +12,27 @@ const RATES: [[u16; 2]; 5] = [[10, 1], [40, 1], [100, 2], [400, 8], [1000, 20]];
 fn rate_width(rate: u16) -> u16
     ensures { result ≡ rate_width rate }
 {
-    let mut k: usize = 0;
-    while k < 5 {
-        let row = RATES[k];
+    for row in &RATES {
         if rate == row[0] {
             return row[1];
         }
-        k += 1;
     }
     0
 }
 
 // The width of a demand, in slots: what it asks for, or what its rate takes. There is no other way to it.
+#[tactic(auto, unfolding(crate::specs::View::width_of, crate::specs::View::view_demand, crate::specs::View::asked_width))]
 pub fn width_of(demand: Demand) -> u16
     ensures { result ≡ width_of (view_demand demand) }
 {
-    let asked = demand.asked;
-    match asked {
+    match demand.asked {
         Asked::Width(width) => width,
         Asked::Rate(rate) => rate_width(rate),
     }
 }
 
 // Whether what is asked for is a width, or a rate in the table.
+#[tactic(auto, using(crate::proofs::RateLaws::known_width), unfolding(crate::specs::Check::known_asked))]
 pub(crate) fn rate_known(asked: Asked) -> bool
     ensures { result ≡ known_asked asked }
 {

@@ -1,7 +1,7 @@
 // The tests of one demand, each by itself.
 ghost use Rattle.std.specs.Prelude.{◌≡◌, take};
 ghost use Rattle.request.specs.View.{view_demand};
-ghost use Rattle.request.specs.Check.{has, allowed_hops, sound_route};
+ghost use Rattle.request.specs.Check.{allowed_hops};
 ghost use Rattle.request.specs.DemandTest.{demand_tests};
 
 use crate::rates::{rate_known, width_of};
@@ -10,6 +10,7 @@ use crate::{Demand, DemandTests, Link, Request};
 use grid::width_allowed;
 
 // What each test says of a demand in a band of so many slots, over the first `count` links and after demands of these idents.
+// Kept as it is: `test_demand` is public, and its clause speaks of the array and of each `count`, those beyond 64 too.
 pub fn test_demand(
     demand: Demand,
     slots: u16,
@@ -19,51 +20,35 @@ pub fn test_demand(
 ) -> DemandTests
     ensures { result ≡ demand_tests slots (take count links) earlier.now (view_demand demand) }
 {
-    let asked = demand.asked;
-    let width = width_of(demand);
+    tests_of(&demand, slots, listed(&links, count), earlier)
+}
+
+// What each test says of a demand over these links.
+pub(crate) fn tests_of(demand: &Demand, slots: u16, links: &[Link], earlier: &[u16]) -> DemandTests
+    ensures { result ≡ demand_tests slots links.now earlier.now (view_demand demand.now) }
+{
     DemandTests {
-        used: ident_used(earlier, demand.ident),
-        rate: rate_known(asked),
-        width: width_allowed(slots, width),
+        used: earlier.contains(&demand.ident),
+        rate: rate_known(demand.asked),
+        width: width_allowed(slots, width_of(*demand)),
         hops: allowed_hops(demand.hops),
-        route: demand_route_sound(demand, links, count),
+        route: sound_route(demand.route(), links),
     }
 }
 
-// Whether the route of a demand is sound: of its first `hops` links, or of all that there is room for.
-fn demand_route_sound(demand: Demand, links: [Link; 64], count: usize) -> bool
-    ensures { result ≡ sound_route (take count links) (view_demand demand).route }
+// The links of an array that are listed: the first `count`, and all of them where there are not so many.
+// Kept as it is: to serve `asked_of` of `meeting` too it would have to be generic and public, which is no plainer than two lines in each.
+pub(crate) fn listed(links: &[Link; 64], count: usize) -> &[Link]
+    ensures { result.now ≡ take count links.now }
 {
-    let hops = demand.hops;
-    let route = demand.links;
-    if hops <= Request::MOST_HOPS {
-        sound_route(&route[..hops], links, count)
-    } else {
-        sound_route(&route, links, count)
-    }
-}
-
-// Whether one of the earlier idents is this one.
-fn ident_used(earlier: &[u16], ident: u16) -> bool
-    ensures { result ≡ has ident earlier.now }
-{
-    let mut i = 0;
-    while i < earlier.len() {
-        if ident == earlier[i] {
-            return true;
-        }
-        i += 1;
-    }
-    false
+    let listed = count.min(Request::MOST_LINKS);
+    &links[..listed]
 }
 
 // A route has 1 to 32 links.
+#[tactic(auto, unfolding(crate::specs::Check::allowed_hops))]
 fn allowed_hops(hops: usize) -> bool
     ensures { result ≡ allowed_hops hops }
 {
-    if 1 <= hops {
-        hops <= Request::MOST_HOPS
-    } else {
-        false
-    }
+    (1..=Request::MOST_HOPS).contains(&hops)
 }

@@ -1,6 +1,6 @@
 -- Is this the best there is? What a search's answer promises about a request, in the planner's words: plans are lists of starts by
 -- listing position, an order lists each position once, and nothing of the walk is left but its counts.
-use Rattle.std.specs.Prelude.{ℕ, ◌+◌, ◌≤◌, ◌<◌, Bool, true, false, ◌≢◌, ◌≡◌, length, take, drop}
+use Rattle.std.specs.Prelude.{ℕ, ◌+◌, ◌≤◌, ◌<◌, Bool, true, false, ◌≢◌, ◌≡◌, length, take, drop, Ok}
 use mathlib.Core.List.{List, [], ◌∷◌, ◌++◌, Memᴰ}
 use Rattle.theory.specs.Arrange.{Arrange}
 use Rattle.theory.specs.Earlier.{Lower}
@@ -13,7 +13,6 @@ use Rattle.meeting.specs.Bound.{bound_of}
 use Rattle.meeting.specs.Plan.{AllowedPlan, end_of_plan, start_at, starts_of}
 use Rattle.placing.specs.FirstFit.{blockers_of, first_fit_reply, first_fit_starts, first_fit_blockers}
 use Rattle.placing.specs.LowestFree.{EachBlocked}
-use Rattle.placing.specs.declared.PlacedReply.TheVariants as placed-reply
 use Rattle.search.specs.declared.Outcome.{Outcome}
 use Rattle.search.specs.declared.Outcome.TheVariants.{Finished, NothingFits, Unfinished, UnfinishedEmpty}
 use Rattle.search.specs.declared.Answer.{Answer}
@@ -41,7 +40,7 @@ pub record PlanShown (v : View) (e : ℕ) (shown : Buffers) : Type 0 where
 -- the call of first fit in the order shown gives the plan shown, whatever buffers with room it is lent: its end, its starts and its
 -- blockers
 pub record FirstFitShows (v : View) (e : ℕ) (shown : Buffers) (starts blockers : List ℕ) : Type 0 where
-  pub placed : first_fit_reply v shown.order (length starts ∷ length blockers ∷ []) ≡ placed-reply.Placed e
+  pub placed : first_fit_reply v shown.order (length starts ∷ length blockers ∷ []) ≡ Ok e
   pub same_starts : take v.demand_count (first_fit_starts v shown.order (length starts ∷ length blockers ∷ []) starts) ≡ shown.starts
   pub same_blockers : take v.demand_count (first_fit_blockers v shown.order (length starts ∷ length blockers ∷ []) blockers) ≡ shown.blockers
 

@@ -1,6 +1,7 @@
 -- The search keeps its promises: whatever it answers about a sound request holds.
+use Rattle.refusal.specs.declared.Refusal.{Refusal}
 use Prim.Native.Nat.{ℕ, ◌+◌, ◌≤◌, ◌<◌}
-use Rattle.std.specs.Prelude.{true, ◌≡◌}
+use Rattle.std.specs.Prelude.{true, ◌≡◌, Result, Ok, Err}
 use Rattle.std.proofs.lemmas.Bool.{false≢true}
 use mathlib.Core.List.Memᴰ
 use mathlib.Core.List.{List, [], ◌∷◌, ◌++◌, append_assoc, Memᴰ}
@@ -23,8 +24,6 @@ use Rattle.theory.specs.Search as theory
 use Rattle.theory.specs.inner.Promises as promises
 use Rattle.theory.proofs.SearchLaws.{search_promise, search_steps, search_bound, search_same}
 use Rattle.request.specs.declared.Request.{Request}
-use Rattle.request.specs.declared.Checked.{Checked}
-use Rattle.request.specs.declared.Checked.TheVariants.{Sound, Refused}
 use Rattle.request.specs.View.{View, view, demand_at}
 use Rattle.request.specs.Check.{check}
 use Rattle.request.specs.Whole.{Whole}
@@ -41,7 +40,6 @@ use Rattle.meeting.specs.PlanEndLaws.{plan_end_is}
 use Rattle.search.specs.declared.Outcome.{Outcome}
 use Rattle.search.specs.declared.Outcome.TheVariants.{Unfinished, UnfinishedEmpty}
 use Rattle.search.specs.declared.Answer.{Answer}
-use Rattle.search.specs.declared.SearchReply.TheVariants as reply
 use Rattle.search.specs.Reply.{Buffers, rooms_of, searched, outcome_told, answer_told, check_search, reply_to, buffers_kept, search_reply, buffers_after}
 use Rattle.lent.specs.Lent.{over, unless_refused}
 use Rattle.placing.specs.FirstFit.{blockers_of, fitted}
@@ -357,32 +355,32 @@ module _ (v : View) (sound : SoundRequest v) (counted : length v.demands ≡ v.d
       (search_promise P v.band.slots (bound_of v) limit [] todo (grounds_of v sound counted)) rows order is
 
 -- an answer in reply: the tests passed, and it is what the search found
-pub answer_given : (c : Checked) (found : theory.Answer) (a : Answer) → reply_to c found ≡ reply.Answered a → (c ≡ Sound) × (answer_told found ≡ a)
+pub answer_given : (c : Result Unit Refusal) (found : theory.Answer) (a : Answer) → reply_to c found ≡ Ok a → (c ≡ Ok tt) × (answer_told found ≡ a)
 unfolding reply_to
-answer_given Sound found a e = (refl, cc)
-answer_given (Refused why) found a e = absurd (let z : ◌≡◌ {A = ℕ} 0 1 = cc in omega arith)
+answer_given (Ok _) found a e = (refl, cc)
+answer_given (Err why) found a e = absurd (let z : ◌≡◌ {A = ℕ} 0 1 = cc in omega arith)
 
 -- demand 3: what `search` answers about a request, and what it leaves in the buffers, keeps its promise, whatever the request, the
 -- limit and the buffers were
 pub demand3 : (q : Request) → Whole q → (limit : ℕ) (lent : Buffers) (a : Answer) →
-    search_reply (view q) limit (rooms_of lent) ≡ reply.Answered a → AnswerKept (view q) limit a lent (buffers_after (view q) limit lent)
+    search_reply (view q) limit (rooms_of lent) ≡ Ok a → AnswerKept (view q) limit a lent (buffers_after (view q) limit lent)
 unfolding search_reply buffers_after unless_refused
 demand3 q whole limit lent a e =
     let v : View = view q in
     let (passed, same) = answer_given (check_search v (rooms_of lent)) (searched v limit) a e in
-    let sound : check v ≡ Sound = (passed_searchable v (rooms_of lent) passed).sound in
+    let sound : check v ≡ Ok tt = (passed_searchable v (rooms_of lent) passed).sound in
     let limits = checked_limits q whole sound in
     let kept = sound_kept v (check_sound v (whole_counted q whole) sound) limits.demands_there limits.routes_there limit lent in
-    subst (λ (x : Checked). AnswerKept v limit a lent (unless_refused x lent (buffers_kept v (searched v limit).best lent))) (sym passed)
+    subst (λ (x : Result Unit Refusal). AnswerKept v limit a lent (unless_refused x lent (buffers_kept v (searched v limit).best lent))) (sym passed)
     (subst (λ (b : Answer). AnswerKept v limit b lent (buffers_kept v (searched v limit).best lent)) same kept)
 
 -- an answer that settles the question is the answer under every limit of at least its steps, and so are the buffers
 pub settled_same : (v : View) (limit other : ℕ) (lent : Buffers) (a : Answer) →
-    search_reply v limit (rooms_of lent) ≡ reply.Answered a → settles a.outcome ≡ true → a.steps ≤ other →
-    (search_reply v other (rooms_of lent) ≡ reply.Answered a) × (buffers_after v other lent ≡ buffers_after v limit lent)
+    search_reply v limit (rooms_of lent) ≡ Ok a → settles a.outcome ≡ true → a.steps ≤ other →
+    (search_reply v other (rooms_of lent) ≡ Ok a) × (buffers_after v other lent ≡ buffers_after v limit lent)
 unfolding searched search_reply buffers_after answer_told
 settled_same v limit other lent a e settled few =
-    let c : Checked = check_search v (rooms_of lent) in
+    let c : Result Unit Refusal = check_search v (rooms_of lent) in
     let told : answer_told (searched v limit) ≡ a = (answer_given c (searched v limit) a e).1 in
     let same : searched v other ≡ searched v limit =
     search_same (problem_of v) v.band.slots (bound_of v) limit other [] (listing v.demand_count)
@@ -391,7 +389,7 @@ settled_same v limit other lent a e settled few =
     (ap (reply_to c) same ∙ e, ap (λ (x : theory.Answer). unless_refused c lent (buffers_kept v x.best lent)) same)
 
 -- an answer settles the question exactly from the steps needed on
-answer_settling : (v : View) (limit : ℕ) (rooms : List ℕ) (a : Answer) → search_reply v limit rooms ≡ reply.Answered a →
+answer_settling : (v : View) (limit : ℕ) (rooms : List ℕ) (a : Answer) → search_reply v limit rooms ≡ Ok a →
     SettlesExactly (steps_needed v) limit a
 unfolding search_reply
 answer_settling v limit rooms a e =
@@ -400,7 +398,7 @@ answer_settling v limit rooms a e =
 -- for each request there is one number of steps, the same for every limit and all buffers: the question is settled exactly where the limit
 -- is no lower, and then in exactly so many steps
 pub settles_from : (v : View) → (needed : ℕ) ×
-    ((limit : ℕ) (rooms : List ℕ) (a : Answer) → search_reply v limit rooms ≡ reply.Answered a → SettlesExactly needed limit a)
+    ((limit : ℕ) (rooms : List ℕ) (a : Answer) → search_reply v limit rooms ≡ Ok a → SettlesExactly needed limit a)
 settles_from v = (steps_needed v, answer_settling v)
 
 -- one who takes no order in and says of every limit that it is used up keeps what unfinished without a plan promises, whatever the request
@@ -432,6 +430,6 @@ never_always_unfinished v limit a lent after kept enough =
 
 -- up to twelve demands a limit of 1302061344 steps settles the question, whatever the request
 pub twelve_settled : (v : View) → v.demand_count ≤ 12 → (limit : ℕ) → 1302061344 ≤ limit → (rooms : List ℕ) (a : Answer) →
-    search_reply v limit rooms ≡ reply.Answered a → settles a.outcome ≡ true
+    search_reply v limit rooms ≡ Ok a → settles a.outcome ≡ true
 twelve_settled v few limit enough rooms a e =
     (answer_settling v limit rooms a e).settled_there (omega (arith, twelve_within v few))

@@ -1,12 +1,11 @@
 -- What the search of a request replies, and what the three lent buffers hold afterwards.
-use Rattle.std.specs.Prelude.{ℕ, Bool, true, false, List, [], ◌∷◌, length, leb}
+use Rattle.refusal.specs.declared.Refusal.{Refusal}
+use Rattle.std.specs.Prelude.{ℕ, Bool, true, false, List, [], ◌∷◌, length, leb, Result, Ok, Err}
 use Rattle.refusal.specs.declared.Refusal.TheVariants.{TooManyToSearch}
 use Rattle.refusal.specs.Told.{Told, refusal_told}
 use Rattle.theory.specs.Orders.{listing}
 use Rattle.theory.specs.Walk.{Best, none_met, met}
 use Rattle.theory.specs.Search as theory
-use Rattle.request.specs.declared.Checked.{Checked}
-use Rattle.request.specs.declared.Checked.TheVariants.{Sound, Refused}
 use Rattle.request.specs.View.{View}
 use Rattle.request.specs.Check.{then, must, check}
 use Rattle.lent.specs.Lent.{check_rooms, over, unless_refused}
@@ -17,8 +16,6 @@ use Rattle.meeting.specs.Bound.{bound_of}
 use Rattle.search.specs.declared.Outcome.{Outcome}
 use Rattle.search.specs.declared.Outcome.TheVariants.{Finished, NothingFits, Unfinished, UnfinishedEmpty}
 use Rattle.search.specs.declared.Answer.{Answer}
-use Rattle.search.specs.declared.SearchReply.{SearchReply}
-use Rattle.search.specs.declared.SearchReply.TheVariants as reply
 
 -- the search of a request: all its demands in listing order, inside its band, with its bound
 unfoldable pub searched : View → ℕ → theory.Answer
@@ -73,20 +70,20 @@ unfoldable pub rooms_of : Buffers → List ℕ
 rooms_of lent = length lent.starts ∷ length lent.order ∷ length lent.blockers ∷ []
 
 -- after the request: 11, then 10 for each buffer
-unfoldable pub check_sizes : ℕ → List ℕ → Checked
+unfoldable pub check_sizes : ℕ → List ℕ → Result Unit Refusal
 unfolding then must check_rooms
 check_sizes K rooms = then (must (leb K 20) (TooManyToSearch K)) (check_rooms K rooms)
 
 -- all that a search tests before its first step
-unfoldable pub check_search : View → List ℕ → Checked
+unfoldable pub check_search : View → List ℕ → Result Unit Refusal
 unfolding then check check_sizes
 check_search v rooms = then (check v) (check_sizes v.demand_count rooms)
 
 -- the reply: the refusal, or the answer
-unfoldable pub reply_to : Checked → theory.Answer → SearchReply
+unfoldable pub reply_to : Result Unit Refusal → theory.Answer → Result Answer Refusal
 unfolding answer_told
-reply_to (Refused why) a = reply.Refused why
-reply_to Sound a = reply.Answered (answer_told a)
+reply_to (Err why) a = Err why
+reply_to (Ok _) a = Ok (answer_told a)
 
 -- the buffers after a search that was run: with a plan its starts, the order that gave it and its blockers, K entries each; else as they were
 unfoldable pub buffers_kept : View → Best → Buffers → Buffers
@@ -100,7 +97,7 @@ buffers_kept v (met rows order) lent =
     }
 
 -- the reply to a request, a limit, and buffers of these rooms
-unfoldable pub search_reply : View → ℕ → List ℕ → SearchReply
+unfoldable pub search_reply : View → ℕ → List ℕ → Result Answer Refusal
 unfolding check_search reply_to searched
 search_reply v limit rooms = reply_to (check_search v rooms) (searched v limit)
 
@@ -111,8 +108,8 @@ buffers_after v limit lent = unless_refused (check_search v (rooms_of lent)) len
 
 -- what a reply says: 0, then the outcome's number and end, the bound, the steps, the orders reached, the orders ruled out; or the number
 -- of the fault and its place
-unfoldable pub answered_told : SearchReply → Told ℕ
+unfoldable pub answered_told : Result Answer Refusal → Told ℕ
 unfolding outcome_number outcome_end
-answered_told (reply.Answered a) =
+answered_told (Ok a) =
     (0, outcome_number a.outcome ∷ outcome_end a.outcome ∷ a.bound ∷ a.steps ∷ a.reached ∷ a.ruled ∷ [])
-answered_told (reply.Refused why) = refusal_told why
+answered_told (Err why) = refusal_told why

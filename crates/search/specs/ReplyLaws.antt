@@ -1,5 +1,5 @@
 -- What a search tests, and what its reply and its buffers are then, branch by branch.
-use Rattle.std.specs.Prelude.{ℕ, ◌≤◌, ◌<◌, true, false, List, ◌≡◌, refl, get_or, leb}
+use Rattle.std.specs.Prelude.{ℕ, ◌≤◌, ◌<◌, true, false, List, ◌≡◌, refl, get_or, leb, Result, Ok, Err}
 use Rattle.std.proofs.lemmas.Bool.{false≢true, lt-leb}
 use Rattle.std.proofs.Common.{sym, ap, ap₂, ◌∙◌, leb-true, le-leb, arith}
 use Rattle.refusal.specs.declared.Refusal.{Refusal}
@@ -9,20 +9,15 @@ use Rattle.refusal.specs.ToldLaws.{refusal_told_whole, refusal_told_fault}
 use Rattle.theory.specs.Problem.{Row}
 use Rattle.theory.specs.Walk.{Best, none_met, met, Course, going, at_bound, out_of_steps}
 use Rattle.theory.specs.Search as theory
-use Rattle.request.specs.declared.Checked.{Checked}
-use Rattle.request.specs.declared.Checked.TheVariants.{Sound, Refused}
 use Rattle.request.specs.View.{View}
 use Rattle.request.specs.Check.{then, check, must}
 use Rattle.request.proofs.CheckLaws.{then_sound, then_refused, first_sound, next_sound, test_held, by_check}
-use Rattle.meeting.specs.declared.BoundReply.TheVariants as bound-reply
 use Rattle.meeting.specs.Bound.{bound_of}
 use Rattle.meeting.specs.Reply.{bound_reply}
 use Rattle.meeting.specs.ReplyLaws.{bound_answered, bound_refused}
 use Rattle.search.specs.declared.Outcome.{Outcome}
 use Rattle.search.specs.declared.Outcome.TheVariants.{Finished, NothingFits, Unfinished, UnfinishedEmpty}
 use Rattle.search.specs.declared.Answer.{Answer}
-use Rattle.search.specs.declared.SearchReply.{SearchReply}
-use Rattle.search.specs.declared.SearchReply.TheVariants as reply
 use Rattle.search.specs.inner.Told.{is_spent, is_met}
 use Rattle.search.specs.Reply.{Buffers, rooms_of, outcome_told, outcome_number, outcome_end, outcome_by, answer_told, check_sizes, check_search, reply_to, searched, buffers_kept, search_reply, buffers_after, answered_told}
 use Rattle.lent.specs.Lent.{over, unless_refused, check_rooms}
@@ -32,7 +27,7 @@ use Rattle.meeting.specs.Plan.{starts_of}
 use Rattle.search.specs.inner.Found.{Searchable}
 
 -- more than 20 demands
-pub sizes_many : (K : ℕ) (rooms : List ℕ) → 20 < K → check_sizes K rooms ≡ Refused (TooManyToSearch K)
+pub sizes_many : (K : ℕ) (rooms : List ℕ) → 20 < K → check_sizes K rooms ≡ Err (TooManyToSearch K)
 unfolding check_sizes then must
 sizes_many K rooms h = rw (lt-leb K 20 h)
 
@@ -42,7 +37,7 @@ unfolding check_sizes then must
 sizes_few K rooms h = rw (le-leb K 20 h)
 
 -- a search that passed its tests is one of a sound request of at most 20 demands
-pub passed_searchable : (v : View) (rooms : List ℕ) → check_search v rooms ≡ Sound → Searchable v
+pub passed_searchable : (v : View) (rooms : List ℕ) → check_search v rooms ≡ Ok tt → Searchable v
 unfolding check_search check_sizes
 passed_searchable v rooms h =
     record {
@@ -54,11 +49,11 @@ passed_searchable v rooms h =
     }
 
 -- of a sound request the sizes are tested, of any other nothing
-pub tested_sizes : (v : View) (rooms : List ℕ) → check v ≡ Sound → check_search v rooms ≡ check_sizes v.demand_count rooms
+pub tested_sizes : (v : View) (rooms : List ℕ) → check v ≡ Ok tt → check_search v rooms ≡ check_sizes v.demand_count rooms
 unfolding check_search
 tested_sizes v rooms h = then_sound (check v) (check_sizes v.demand_count rooms) h
 
-pub tested_request : (v : View) (rooms : List ℕ) (why : Refusal) → check v ≡ Refused why → check_search v rooms ≡ Refused why
+pub tested_request : (v : View) (rooms : List ℕ) (why : Refusal) → check v ≡ Err why → check_search v rooms ≡ Err why
 unfolding check_search
 tested_request v rooms why h = then_refused (check v) (check_sizes v.demand_count rooms) why h
 
@@ -73,21 +68,21 @@ outcome_by_lem out_of_steps none_met mark = refl
 outcome_by_lem out_of_steps (met rows order) mark = refl
 
 -- a refused search: its reply, and the buffers as they were
-pub refused_reply : (v : View) (limit : ℕ) (rooms : List ℕ) (why : Refusal) → check_search v rooms ≡ Refused why → reply.Refused why ≡ search_reply v limit rooms
+pub refused_reply : (v : View) (limit : ℕ) (rooms : List ℕ) (why : Refusal) → check_search v rooms ≡ Err why → Err why ≡ search_reply v limit rooms
 unfolding search_reply reply_to
 refused_reply v limit rooms why h = rw h
 
-pub refused_buffers : (v : View) (limit : ℕ) (lent : Buffers) (why : Refusal) → check_search v (rooms_of lent) ≡ Refused why → lent ≡ buffers_after v limit lent
+pub refused_buffers : (v : View) (limit : ℕ) (lent : Buffers) (why : Refusal) → check_search v (rooms_of lent) ≡ Err why → lent ≡ buffers_after v limit lent
 unfolding buffers_after unless_refused
 refused_buffers v limit lent why h = rw h
 
 -- a search that was run: its reply, and what the buffers hold
-pub answered_reply : (v : View) (limit : ℕ) (rooms : List ℕ) → check_search v rooms ≡ Sound →
-    reply.Answered (answer_told (searched v limit)) ≡ search_reply v limit rooms
+pub answered_reply : (v : View) (limit : ℕ) (rooms : List ℕ) → check_search v rooms ≡ Ok tt →
+    Ok (answer_told (searched v limit)) ≡ search_reply v limit rooms
 unfolding search_reply reply_to
 answered_reply v limit rooms h = rw h
 
-pub answered_buffers : (v : View) (limit : ℕ) (lent : Buffers) → check_search v (rooms_of lent) ≡ Sound →
+pub answered_buffers : (v : View) (limit : ℕ) (lent : Buffers) → check_search v (rooms_of lent) ≡ Ok tt →
     buffers_kept v (searched v limit).best lent ≡ buffers_after v limit lent
 unfolding buffers_after unless_refused
 answered_buffers v limit lent h = rw h
@@ -111,24 +106,24 @@ no_plan_kept v none_met lent h = refl
 no_plan_kept v (met rows order) lent h = absurd (false≢true (sym h))
 
 -- a bound in reply: the request is sound, and it is its bound
-pub bound_known : (v : View) (need : ℕ) → bound-reply.Bound need ≡ bound_reply v → (check v ≡ Sound) × (need ≡ bound_of v)
+pub bound_known : (v : View) (need : ℕ) → Ok need ≡ bound_reply v → (check v ≡ Ok tt) × (need ≡ bound_of v)
 bound_known v need h =
     by_check (check v)
-    (λ (sound : check v ≡ Sound).
-    let same : bound-reply.Bound need ≡ bound-reply.Bound (bound_of v) = h ∙ sym (bound_answered v (bound_of v) sound refl) in (sound, cc))
-    (λ (why : Refusal) (refused : check v ≡ Refused why).
-    let same : bound-reply.Bound need ≡ bound-reply.Refused why = h ∙ sym (bound_refused v why refused) in
+    (λ (sound : check v ≡ Ok tt).
+    let same : Ok need ≡ Ok (bound_of v) = h ∙ sym (bound_answered v (bound_of v) sound refl) in (sound, cc))
+    (λ (why : Refusal) (refused : check v ≡ Err why).
+    let same : Ok need ≡ Err why = h ∙ sym (bound_refused v why refused) in
     absurd (let z : ◌≡◌ {A = ℕ} 0 1 = cc in omega arith))
 
 -- a refusal in reply is the request's
-pub refusal_known : (v : View) (why : Refusal) → bound-reply.Refused why ≡ bound_reply v → check v ≡ Refused why
+pub refusal_known : (v : View) (why : Refusal) → Err why ≡ bound_reply v → check v ≡ Err why
 refusal_known v why h =
     by_check (check v)
-    (λ (sound : check v ≡ Sound).
-    let same : bound-reply.Refused why ≡ bound-reply.Bound (bound_of v) = h ∙ sym (bound_answered v (bound_of v) sound refl) in
+    (λ (sound : check v ≡ Ok tt).
+    let same : Err why ≡ Ok (bound_of v) = h ∙ sym (bound_answered v (bound_of v) sound refl) in
     absurd (let z : ◌≡◌ {A = ℕ} 0 1 = cc in omega arith))
-    (λ (other : Refusal) (refused : check v ≡ Refused other).
-    let same : bound-reply.Refused why ≡ bound-reply.Refused other = h ∙ sym (bound_refused v other refused) in refused ∙ cc)
+    (λ (other : Refusal) (refused : check v ≡ Err other).
+    let same : Err why ≡ Err other = h ∙ sym (bound_refused v other refused) in refused ∙ cc)
 
 -- an outcome is its number and its end
 pub same_outcome : (o o' : Outcome) → outcome_number o ≡ outcome_number o' → outcome_end o ≡ outcome_end o' → o ≡ o'
@@ -158,34 +153,34 @@ same_numbers a a' ho hb hs hr hx =
     ∙ ap₂ (λ (r x : ℕ). record { outcome = a'.outcome; bound = a'.bound; steps = a'.steps; reached = r; ruled = x }) hr hx)
 
 -- two replies that are told alike are the same
-pub answered_told_whole : (r r' : SearchReply) → answered_told r ≡ answered_told r' → r ≡ r'
+pub answered_told_whole : (r r' : Result Answer Refusal) → answered_told r ≡ answered_told r' → r ≡ r'
 unfolding answered_told
-answered_told_whole (reply.Answered a) (reply.Answered a') h =
-    ap reply.Answered
+answered_told_whole (Ok a) (Ok a') h =
+    ap Ok
     (same_numbers a a'
     (same_outcome a.outcome a'.outcome (ap (λ (t : Told ℕ). get_or t.1 0 0) h) (ap (λ (t : Told ℕ). get_or t.1 1 0) h))
     (ap (λ (t : Told ℕ). get_or t.1 2 0) h) (ap (λ (t : Told ℕ). get_or t.1 3 0) h)
     (ap (λ (t : Told ℕ). get_or t.1 4 0) h) (ap (λ (t : Told ℕ). get_or t.1 5 0) h))
-answered_told_whole (reply.Answered a) (reply.Refused why) h = absurd (refusal_told_fault why _ _ (sym h))
-answered_told_whole (reply.Refused why) (reply.Answered a) h = absurd (refusal_told_fault why _ _ h)
-answered_told_whole (reply.Refused why) (reply.Refused why') h = ap reply.Refused (refusal_told_whole why why' h)
+answered_told_whole (Ok a) (Err why) h = absurd (refusal_told_fault why _ _ (sym h))
+answered_told_whole (Err why) (Ok a) h = absurd (refusal_told_fault why _ _ h)
+answered_told_whole (Err why) (Err why') h = ap Err (refusal_told_whole why why' h)
 
 -- two results that meet the contract of `search` are equal, and leave the same in the buffers
-pub same_search : (v : View) (limit : ℕ) (lent : Buffers) (a a' : SearchReply) (after after' : Buffers) →
+pub same_search : (v : View) (limit : ℕ) (lent : Buffers) (a a' : Result Answer Refusal) (after after' : Buffers) →
     a ≡ search_reply v limit (rooms_of lent) → after ≡ buffers_after v limit lent →
     a' ≡ search_reply v limit (rooms_of lent) → after' ≡ buffers_after v limit lent → (a ≡ a') × (after ≡ after')
 same_search v limit lent a a' after after' h k h' k' = (h ∙ sym h', k ∙ sym k')
 
 -- a refusal in reply leaves the buffers as they were
-unless_answered : (c : Checked) (a : theory.Answer) (why : Refusal) (before after : Buffers) → reply_to c a ≡ reply.Refused why →
+unless_answered : (c : Result Unit Refusal) (a : theory.Answer) (why : Refusal) (before after : Buffers) → reply_to c a ≡ Err why →
     unless_refused c before after ≡ before
 unfolding reply_to unless_refused
-unless_answered (Refused why') a why before after e = refl
-unless_answered Sound a why before after e = absurd (let z : ◌≡◌ {A = ℕ} 0 1 = cc in omega arith)
+unless_answered (Err why') a why before after e = refl
+unless_answered (Ok _) a why before after e = absurd (let z : ◌≡◌ {A = ℕ} 0 1 = cc in omega arith)
 
 -- a search that is refused leaves the buffers as they were
 pub search_refused_keeps : (v : View) (limit : ℕ) (lent : Buffers) (why : Refusal) →
-    search_reply v limit (rooms_of lent) ≡ reply.Refused why → buffers_after v limit lent ≡ lent
+    search_reply v limit (rooms_of lent) ≡ Err why → buffers_after v limit lent ≡ lent
 unfolding search_reply buffers_after
 search_refused_keeps v limit lent why e =
     unless_answered (check_search v (rooms_of lent)) (searched v limit) why lent (buffers_kept v (searched v limit).best lent) e

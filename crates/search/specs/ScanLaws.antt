@@ -23,6 +23,12 @@ module _ (near : List Bool) (low past : List ℕ) where
   unfolding look_past
   look_more end from k = rw add-one
 
+  -- the larger of a look so far and what one demand more adds is a look at one demand more
+  pub look_next : (end from k next add : ℕ) → next ≡ look_past near low past end from k →
+      add ≡ cond (get_or near k false && ltb (get_or low k 0) end) (get_or past k 0) 0 →
+      max next add ≡ look_past near low past end from (k + 1)
+  look_next end from k next add so_far e = let more = look_more end from k in cc
+
   -- a look never goes back
   pub look_rises : (end from n : ℕ) → from ≤ look_past near low past end from n
   unfolding look_past

@@ -1,5 +1,5 @@
 -- The plan that a search shows is the one that the call of first fit gives in the order that it shows.
-use Rattle.std.specs.Prelude.{ℕ, ◌≤◌, ◌⊎◌, ◌≡◌, length, take}
+use Rattle.std.specs.Prelude.{ℕ, ◌≤◌, ◌⊎◌, ◌≡◌, length, take, Ok}
 use mathlib.Core.List.{List, [], Memᴰ}
 use Rattle.std.proofs.Common.{⊎_elim, sym, ap, subst, ◌∙◌, arith}
 use Rattle.theory.specs.Problem.{Problem, Row, placed, fill, top, start_in}
@@ -9,12 +9,10 @@ use Rattle.theory.proofs.AlikeLaws.{plan_end_alike}
 use Rattle.theory.specs.Orders.{listing}
 use Rattle.theory.proofs.ListingLaws.{listing_below, listing_no_repeats}
 use Rattle.request.specs.declared.Request.{Request}
-use Rattle.request.specs.declared.Checked.TheVariants.{Sound}
 use Rattle.request.specs.View.{View, view}
 use Rattle.request.specs.Check.{check}
 use Rattle.request.specs.Whole.{Whole}
 use Rattle.request.proofs.LimitsLaws.{checked_limits}
-use Rattle.placing.specs.declared.PlacedReply.TheVariants as placed-reply
 use Rattle.request.specs.Sharing.{problem_of}
 use Rattle.meeting.specs.Plan.{start_at, starts_of}
 use Rattle.meeting.specs.PlanEndLaws.{plan_end_is}
@@ -23,7 +21,6 @@ use Rattle.placing.proofs.FirstFitLaws.{order_placed, order_starts, order_blocke
 use Rattle.search.specs.declared.Outcome.{Outcome}
 use Rattle.search.specs.declared.Outcome.TheVariants.{Finished, Unfinished}
 use Rattle.search.specs.declared.Answer.{Answer}
-use Rattle.search.specs.declared.SearchReply.TheVariants as reply
 use Rattle.search.specs.Reply.{Buffers, rooms_of, searched, check_search, search_reply, buffers_after}
 use Rattle.search.specs.ReplyLaws.{passed_searchable}
 use Rattle.search.specs.Demand3.{OrderOf, PlanShown, FirstFitShows, Promised, fronts}
@@ -32,12 +29,12 @@ use Rattle.meeting.specs.MeetingLaws.{start_listed, starts_long}
 use Rattle.lent.specs.LentLaws.{front_written}
 
 -- a plan shown is what first fit gives in its order
-shown_placed : (v : View) → check v ≡ Sound → length v.demands ≡ v.demand_count → (e : ℕ) (shown : Buffers) (starts blockers : List ℕ) →
+shown_placed : (v : View) → check v ≡ Ok tt → length v.demands ≡ v.demand_count → (e : ℕ) (shown : Buffers) (starts blockers : List ℕ) →
     PlanShown v e shown → v.demand_count ≤ length starts → v.demand_count ≤ length blockers → FirstFitShows v e shown starts blockers
 unfolding fitted OrderOf
 shown_placed v passes counted e shown starts blockers plan room blockers-room =
     record {
-      placed = order_placed v passes shown.order starts blockers plan.an_order rows out room blockers-room ∙ ap placed-reply.Placed ends;
+      placed = order_placed v passes shown.order starts blockers plan.an_order rows out room blockers-room ∙ ap Ok ends;
       same_starts =
           ap (take K) (order_starts v passes shown.order starts blockers plan.an_order rows out room blockers-room)
           ∙ front_written K (starts_of K rows) starts (starts_long K rows)
@@ -74,7 +71,7 @@ shown_placed v passes counted e shown starts blockers plan room blockers-room =
 -- with a plan shown, finished or not: first fit, called with the order shown and any two buffers of at least K entries, replies with the
 -- end shown, and its starts and its blockers are those shown
 pub first_fit_shown : (q : Request) → Whole q → (limit : ℕ) (lent : Buffers) (a : Answer) →
-    search_reply (view q) limit (rooms_of lent) ≡ reply.Answered a →
+    search_reply (view q) limit (rooms_of lent) ≡ Ok a →
     (e : ℕ) → (a.outcome ≡ Finished e) ⊎ (a.outcome ≡ Unfinished e) →
     (starts blockers : List ℕ) → (view q).demand_count ≤ length starts → (view q).demand_count ≤ length blockers →
     FirstFitShows (view q) e (fronts (view q).demand_count (buffers_after (view q) limit lent)) starts blockers
@@ -94,7 +91,7 @@ first_fit_shown q whole limit lent a answered e outcome starts blockers room blo
     shown : Buffers
     shown = fronts v.demand_count (buffers_after v limit lent)
 
-    sound : check v ≡ Sound
+    sound : check v ≡ Ok tt
     sound =
         (passed_searchable v (rooms_of lent) (answer_given (check_search v (rooms_of lent)) (searched v limit) a answered).0).sound
 

@@ -1,7 +1,7 @@
 -- The walk from its start, and what its end tells.
-use Rattle.std.specs.Prelude.{ℕ, zero, suc, ◌+◌, ◌-◌, ◌*◌, ◌≤◌, ◌<◌, Bool, ◌≡◌, eqb, ltb, get_or, set, length, replicate}
+use Rattle.std.specs.Prelude.{Option, Some, None, is_some, ℕ, zero, suc, ◌+◌, ◌-◌, ◌*◌, ◌≤◌, ◌<◌, Bool, ◌≡◌, eqb, get_or, length, replicate}
 use mathlib.Core.List.{List, [], ◌∷◌, Memᴰ, map}
-use Rattle.std.proofs.Common.{⊎_elim, sym, subst, ◌∙◌, eqb-true, lt-ltb}
+use Rattle.std.proofs.Common.{⊎_elim, sym, subst, ◌∙◌, eqb-true}
 use Rattle.std.proofs.Math.Path.{refl, ap}
 use native.Mathlib.Omega.{arith}
 use Rattle.std.proofs.lemmas.Bool.{eqb-false}
@@ -15,16 +15,21 @@ use Rattle.theory.proofs.ProblemLaws.{lowest_nil, top_nil, start_here, start_oth
 use Rattle.theory.specs.Search.{fresh}
 use Rattle.theory.proofs.TestLaws.{by_test}
 use Rattle.theory.specs.inner.Tried.{Leads, unbeaten, taken, Lead, lead_of, lead_by}
-use Rattle.theory.specs.Walk.{Best, none_met, met, Tally, siblings, walk}
+use Rattle.theory.specs.Walk.{Best, none_met, met, siblings, walk}
+use Rattle.theory.specs.Walk as walk-specs
 use Rattle.theory.proofs.WalkBranchLaws.{walk_siblings}
 use Rattle.theory.proofs.WalkLaws.{walk_walked, walked_leads, walk_mark, walk_steps_held}
-use Rattle.search.specs.inner.Arrays.{problem_of, entries, rows_of, course_of, best_of, tally_of}
+use Rattle.search.specs.declared.tally.Course.TheVariants.{Going}
+use Rattle.search.specs.declared.tally.Plan.{Plan}
+use Rattle.search.specs.declared.tally.Tally.{Tally}
+use Rattle.search.specs.inner.Arrays.{problem_of, entries, rows_of}
+use Rattle.search.specs.inner.Tally.{course_of, best_of, tally_of, Counting}
 use Rattle.search.specs.ArraysLaws.{rows_none}
 use Rattle.search.specs.FactorialLaws.{factorial_most}
 use Rattle.search.specs.inner.Kept.{Sized, Lowest, Ready}
-use Rattle.search.specs.StepLaws.{orders_below}
-use Rattle.search.specs.inner.Told.{is_spent, is_met}
-use Rattle.search.specs.inner.Tries.{tried_from, Counting}
+use Rattle.search.specs.StepLaws.{counting_below}
+use Rattle.search.specs.inner.Told.{is_met}
+use Rattle.search.specs.inner.Tries.{tried_from}
 use Rattle.meeting.specs.MeetingLaws.{listing_at}
 
 -- the entries of a list that counts up are the numbers themselves
@@ -81,31 +86,28 @@ ready_first table widths guard K order sized room counted =
 pub top_first : (P : Problem) (starts order : List ℕ) → 0 ≡ top P (rows_of starts order 0)
 top_first P starts order = sym (ap (top P) (rows_none starts order) ∙ top_nil P)
 
--- the cells at the start have room for all orders
-pub counting_first : (K S : ℕ) → 0 < K → K ≤ 20 → S ≤ 384 →
-    Counting (set (replicate 6 0) 3 (S + 1)) ((K - 0) * factorial (K - (0 + 1)))
+-- the tally at the start
+abbrev pub at_first : ℕ → Tally
+at_first S = record { steps = 0; reached = 0; ruled = 0; mark = S + 1; course = Going; best = None }
+
+-- at the start there is room for the orders below each demand
+pub counting_first : (K S : ℕ) → 0 < K → K ≤ 20 → S ≤ 384 → Counting (at_first S) ((K - 0) * factorial (K - (0 + 1)))
 counting_first K S some few h =
-    record {
-      size = refl;
+    counting_below (at_first S) K 0 some
+    (record {
       on = refl;
-      room =
-          omega (
-            arith,
-            factorial_most K few,
-            ap (λ (m : ℕ). m * factorial (K - 1)) (let e : K - 0 ≡ K = omega arith in e),
-            orders_below K some,
-          );
+      room = omega (arith, factorial_most (K - 0) (omega arith));
       low_mark = omega arith;
-    }
+    })
 
 -- from the first demand on, with nothing placed and nothing counted: that is the walk from its start
-pub tried_first : (P : Problem) (limit bound K S : ℕ) (order starts plan along : List ℕ) → 0 < K → ((k : ℕ) → k < K → get_or order k 0 ≡ k) →
-    tried_from P limit bound K order starts 0 0 (tally_of K (set (replicate 6 0) 3 (S + 1)) plan along) ≡
+pub tried_first : (P : Problem) (limit bound K S : ℕ) (order starts : List ℕ) → 0 < K → ((k : ℕ) → k < K → get_or order k 0 ≡ k) →
+    tried_from P limit bound K order starts 0 0 (tally_of K (at_first S)) ≡
     walk P limit bound K [] [] (listing K) (fresh (S + 1))
 unfolding tried_from tally_of best_of course_of fresh listing rows_of entries
-tried_first P limit bound K S order starts plan along some counted =
+tried_first P limit bound K S order starts some counted =
     let m : ℕ = K - (0 + 1) in
-    let t : Tally = fresh (S + 1) in
+    let t : walk-specs.Tally = fresh (S + 1) in
     let all : entries order 0 (K - 0) ≡ count_up K 0 =
     ap (λ (n : ℕ). entries order 0 n) (let e : K - 0 ≡ K = omega arith in e)
     ∙ entries_counted order 0 K
@@ -181,8 +183,8 @@ best_listed : (P : Problem) (limit bound K mark : ℕ) (rows : List Row) (order 
     (walk P limit bound K [] [] (listing K) (fresh mark)).best ≡ met rows order → (k : ℕ) → k < K → Memᴰ k order
 unfolding fresh lead_of
 best_listed P limit bound K mark rows order e k h =
-    let t : Tally = fresh mark in
-    let u : Tally = walk P limit bound K [] [] (listing K) t in
+    let t : walk-specs.Tally = fresh mark in
+    let u : walk-specs.Tally = walk P limit bound K [] [] (listing K) t in
     let w = walk_walked P limit bound K [] [] (listing K) t refl (listing_length K) in
     let tried =
     lead_tried P w.eaten mark u.mark u.best rows order
@@ -191,69 +193,60 @@ best_listed P limit bound K mark rows order e k h =
     subst (λ (l : List (List ℕ)). Memᴰ order l) (sym w.split) (mathlib.Core.List.Memᴰ.append_left w.remaining tried) in
     arrange_back order (listing K) (orders_of_arrange K (listing K) order (listing_length K) among-all) k (listing_mem K k h)
 
--- a course above 1 is out of steps
-pub spent_above : (m : ℕ) → ltb 1 m ≡ is_spent (course_of m)
-unfolding is_spent course_of
-spent_above zero = refl
-spent_above (suc zero) = refl
-spent_above (suc (suc m)) = lt-ltb 1 (suc (suc m)) (omega arith)
-
--- a mark of a plan above 0 is a plan met
-pub found_above : (K m : ℕ) (starts order : List ℕ) → ltb 0 m ≡ is_met (best_of K m starts order)
+-- whether a plan was met is whether there is one
+pub met_some : (K : ℕ) (best : Option Plan) → is_some best ≡ is_met (best_of K best)
 unfolding is_met best_of
-found_above K zero starts order = refl
-found_above K (suc m) starts order = lt-ltb 0 (suc m) (omega arith)
+met_some K None = refl
+met_some K (Some plan) = refl
 
--- a plan met is the one that the arrays hold
-met_held : (K m : ℕ) (starts along : List ℕ) (rows : List Row) (order : List ℕ) → best_of K m starts along ≡ met rows order →
-    (rows_of starts along K ≡ rows) × (entries along 0 K ≡ order)
-unfolding best_of
-met_held K zero starts along rows order e = absurd (let z : ◌≡◌ {A = ℕ} 0 1 = cc in omega arith)
-met_held K (suc m) starts along rows order e = ((cc), (cc))
+module _ (P : Problem) (limit bound K S : ℕ) (t : Tally)
+    (ended : tally_of K t ≡ walk P limit bound K [] [] (listing K) (fresh (S + 1))) where
+  -- a plan that is held is the best plan of the walk
+  held : (plan : Plan) (rows : List Row) (order : List ℕ) → t.best ≡ Some plan →
+      (walk P limit bound K [] [] (listing K) (fresh (S + 1))).best ≡ met rows order →
+      (rows_of plan.starts plan.order K ≡ rows) × (entries plan.order 0 K ≡ order)
+  unfolding tally_of best_of
+  held plan rows order is e =
+      let same : met (rows_of plan.starts plan.order K) (entries plan.order 0 K) ≡ met rows order =
+      sym (ap (best_of K) is) ∙ ap (λ (u : walk-specs.Tally). u.best) ended ∙ e in
+      ((cc), (cc))
 
-module _ (P : Problem) (limit bound K S : ℕ) (cells plan along : List ℕ)
-    (ended : tally_of K cells plan along ≡ walk P limit bound K [] [] (listing K) (fresh (S + 1))) where
-  -- the best plan as the arrays hold it
-  held : best_of K (get_or cells 5 0) plan along ≡ (walk P limit bound K [] [] (listing K) (fresh (S + 1))).best
-  unfolding tally_of
-  held = ap (λ (t : Tally). t.best) ended
-
-  -- the array of the best plan has each demand's start
-  pub ended_starts : (rows : List Row) (order : List ℕ) →
+  -- the plan held has each demand's start
+  pub ended_starts : (plan : Plan) (rows : List Row) (order : List ℕ) → t.best ≡ Some plan →
       (walk P limit bound K [] [] (listing K) (fresh (S + 1))).best ≡ met rows order → (k : ℕ) → k < K →
-      get_or plan k 0 ≡ start_in rows k
-  ended_starts rows order e k h =
-      let is = met_held K (get_or cells 5 0) plan along rows order (held ∙ e) in
+      get_or plan.starts k 0 ≡ start_in rows k
+  ended_starts plan rows order is e k h =
+      let same = held plan rows order is e in
       let place =
-      among along 0 K k
-      (subst (λ (l : List ℕ). Memᴰ k l) (sym is.1) (best_listed P limit bound K (S + 1) rows order e k h)) in
+      among plan.order 0 K k
+      (subst (λ (l : List ℕ). Memᴰ k l) (sym same.1) (best_listed P limit bound K (S + 1) rows order e k h)) in
       sym
-      (rows_start plan along K place.place k place.within
-      (ap (λ (r : ℕ). get_or along r 0) (let z : place.place ≡ 0 + place.place = omega arith in z) ∙ place.there))
-      ∙ ap (λ (l : List Row). start_in l k) is.0
+      (rows_start plan.starts plan.order K place.place k place.within
+      (ap (λ (r : ℕ). get_or plan.order r 0) (let z : place.place ≡ 0 + place.place = omega arith in z) ∙ place.there))
+      ∙ ap (λ (l : List Row). start_in l k) same.0
 
-  -- the array of the best order has the order
-  pub ended_order : (rows : List Row) (order : List ℕ) →
-      (walk P limit bound K [] [] (listing K) (fresh (S + 1))).best ≡ met rows order → entries along 0 K ≡ order
-  ended_order rows order e = (met_held K (get_or cells 5 0) plan along rows order (held ∙ e)).1
+  -- and its order
+  pub ended_order : (plan : Plan) (rows : List Row) (order : List ℕ) → t.best ≡ Some plan →
+      (walk P limit bound K [] [] (listing K) (fresh (S + 1))).best ≡ met rows order → entries plan.order 0 K ≡ order
+  ended_order plan rows order is e = (held plan rows order is e).1
 
   -- no more steps were taken than the limit allows
-  pub ended_steps : get_or cells 0 0 ≤ limit
+  pub ended_steps : t.steps ≤ limit
   unfolding tally_of fresh
   ended_steps =
       omega (
         arith,
-        ap (λ (t : Tally). t.steps) ended,
+        ap (λ (u : walk-specs.Tally). u.steps) ended,
         walk_steps_held P limit bound K [] [] (listing K) (fresh (S + 1)) refl (listing_length K),
       )
 
   -- the mark was never raised
-  pub ended_mark : get_or cells 3 0 ≤ S + 1
+  pub ended_mark : t.mark ≤ S + 1
   unfolding tally_of fresh
   ended_mark =
       omega (
         arith,
-        ap (λ (t : Tally). t.mark) ended,
+        ap (λ (u : walk-specs.Tally). u.mark) ended,
         walk_mark P limit bound K [] [] (listing K) (fresh (S + 1)) refl (listing_length K),
       )
 

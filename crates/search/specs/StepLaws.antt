@@ -1,22 +1,25 @@
--- What trying a demand needs and does, in the terms of the arrays: one law for each way through the code.
-use Rattle.std.specs.Prelude.{ℕ, zero, suc, ◌+◌, ◌-◌, ◌*◌, ◌^◌, ◌≤◌, ◌<◌, max, Bool, false, List, ◌∷◌, ◌≡◌, refl, set, length}
+-- What trying a demand needs and does, in the terms of the level and the counts: one law for each way through the code.
+use Rattle.std.specs.Prelude.{ℕ, zero, suc, ◌+◌, ◌-◌, ◌*◌, ◌^◌, ◌≤◌, ◌<◌, max, Bool, false, List, ◌∷◌, ◌≡◌, refl}
 use Rattle.std.proofs.Math.Path.{sym, ap}
-use Rattle.std.proofs.Common.{subst, ◌∙◌, suc-mul, length-set, get_or-set_same}
+use Rattle.std.proofs.Common.{subst, ◌∙◌, suc-mul}
 use native.Mathlib.Omega.{arith}
 use Rattle.std.proofs.Math.ListN.{get_or}
-use Rattle.std.proofs.Math.Seq.{get_or-set_other}
 use Rattle.theory.specs.Orders.{factorial}
 use Rattle.theory.proofs.OrdersLaws.{factorial_suc, factorial_pos}
 use Rattle.theory.specs.Problem.{Problem, Row, end_of, place, top}
 use Rattle.theory.proofs.ProblemLaws.{place_is, top_place}
-use Rattle.theory.specs.Walk.{Tally, stepped, leave, goes_on}
-use Rattle.search.specs.inner.Arrays.{problem_of, entries, rows_of, course_of, tally_of}
+use Rattle.theory.specs.Walk.{stepped, leave, exhausted, goes_on}
+use Rattle.theory.specs.Walk as walk
+use Rattle.search.specs.declared.tally.Course.{Course}
+use Rattle.search.specs.declared.tally.Course.TheVariants.{Going, AtBound, OutOfSteps}
+use Rattle.search.specs.declared.tally.Tally.{Tally}
+use Rattle.search.specs.inner.Arrays.{problem_of, entries, rows_of}
 use Rattle.search.specs.ArraysLaws.{rows_more}
 use Rattle.search.specs.FactorialLaws.{factorial_fits}
 use Rattle.search.specs.inner.Kept.{Lowest, Ready}
 use Rattle.search.specs.KeptLaws.{kept_bounded}
-use Rattle.search.specs.TallyLaws.{cells_stepped, cells_left, cells_spent}
-use Rattle.search.specs.inner.Tries.{reached_at, tried_from, gone_into, Counting}
+use Rattle.search.specs.inner.Tally.{course_of, tally_of, reached_at, Counting}
+use Rattle.search.specs.inner.Tries.{tried_from, gone_into}
 use Rattle.search.specs.TriesLaws.{complete_reached, tried_spent, tried_last, tried_left, tried_into, tried_ended, gone_mark, gone_counts}
 
 -- the orders below the siblings from place p on are those below the one there and those below the rest
@@ -31,76 +34,49 @@ pub orders_below : (m : ℕ) → 0 < m → m * factorial (m - 1) ≡ factorial m
 orders_below zero h = absurd (omega arith)
 orders_below (suc m) h = ap (λ (k : ℕ). suc m * factorial k) (let e : suc m - 1 ≡ m = omega arith in e) ∙ sym (factorial_suc m)
 
--- a step leaves the room to count, the course and the mark
-counting_step : (cells : List ℕ) (orders v : ℕ) → Counting cells orders → Counting (set cells 0 v) orders
-counting_step cells orders v counting =
-    record {
-      size = length-set cells 0 v ∙ counting.size;
-      on = get_or-set_other cells 0 4 v 0 (λ d. omega arith) ∙ counting.on;
-      room =
-          omega (
-            arith,
-            counting.room,
-            get_or-set_other cells 0 1 v 0 (λ d. omega arith),
-            get_or-set_other cells 0 2 v 0 (λ d. omega arith),
-          );
-      low_mark = omega (arith, counting.low_mark, get_or-set_other cells 0 3 v 0 (λ d. omega arith));
-    }
-
 -- before the step at place p there is room for the orders below each sibling from there on; after it, for those below this one and the rest
-pub counting_tried : (cells : List ℕ) (K n p : ℕ) → p < K → Counting cells ((K - p) * factorial (K - (n + 1))) →
-    Counting (set cells 0 (get_or cells 0 0 + 1)) (factorial (K - (n + 1)) + (K - (p + 1)) * factorial (K - (n + 1)))
-counting_tried cells K n p h counting =
-    counting_step cells (factorial (K - (n + 1)) + (K - (p + 1)) * factorial (K - (n + 1))) (get_or cells 0 0 + 1)
-    (subst (λ (orders : ℕ). Counting cells orders) (siblings_orders K p (factorial (K - (n + 1))) h) counting)
+pub counting_tried : (t : Tally) (K n p : ℕ) → p < K → Counting t ((K - p) * factorial (K - (n + 1))) →
+    Counting (record t { steps = t.steps + 1 }) (factorial (K - (n + 1)) + (K - (p + 1)) * factorial (K - (n + 1)))
+counting_tried t K n p h counting =
+    record {
+      on = counting.on;
+      room = omega (arith, counting.room, siblings_orders K p (factorial (K - (n + 1))) h);
+      low_mark = counting.low_mark;
+    }
 
 -- with room for two numbers of orders there is room for the first
-pub counting_here : (cells : List ℕ) (f more : ℕ) → Counting cells (f + more) → Counting cells f
-counting_here cells f more counting =
-    record { size = counting.size; on = counting.on; room = omega (arith, counting.room); low_mark = counting.low_mark }
+pub counting_here : (t : Tally) (f more : ℕ) → Counting t (f + more) → Counting t f
+counting_here t f more counting =
+    record { on = counting.on; room = omega (arith, counting.room); low_mark = counting.low_mark }
 
 -- with room for one order, one more that is reached fits
-pub counting_one : (cells : List ℕ) (m more : ℕ) → Counting cells (factorial m + more) → get_or cells 1 0 + 1 < 2 ^ 64
-counting_one cells m more counting = omega (arith, counting.room, factorial_pos m, factorial_fits)
+pub counting_one : (t : Tally) (m more : ℕ) → Counting t (factorial m + more) → t.reached + 1 < 2 ^ 64
+counting_one t m more counting = omega (arith, counting.room, factorial_pos m, factorial_fits)
 
 -- with room for f orders, f more that are ruled out fit
-pub counting_more : (cells : List ℕ) (f more : ℕ) → Counting cells (f + more) → get_or cells 2 0 + f < 2 ^ 64
-counting_more cells f more counting = omega (arith, counting.room, factorial_fits)
+pub counting_more : (t : Tally) (f more : ℕ) → Counting t (f + more) → t.ruled + f < 2 ^ 64
+counting_more t f more counting = omega (arith, counting.room, factorial_fits)
 
 -- orders ruled out take the room that was theirs
-pub counting_left : (cells : List ℕ) (f more : ℕ) → Counting cells (f + more) → Counting (set cells 2 (get_or cells 2 0 + f)) more
-counting_left cells f more counting =
-    let v : ℕ = get_or cells 2 0 + f in
-    record {
-      size = length-set cells 2 v ∙ counting.size;
-      on = get_or-set_other cells 2 4 v 0 (λ d. omega arith) ∙ counting.on;
-      room =
-          omega (
-            arith,
-            counting.room,
-            counting.size,
-            get_or-set_other cells 2 1 v 0 (λ d. omega arith),
-            get_or-set_same cells 2 v 0 (omega (arith, counting.size)),
-          );
-      low_mark = omega (arith, counting.low_mark, get_or-set_other cells 2 3 v 0 (λ d. omega arith));
-    }
+pub counting_left : (t : Tally) (f more : ℕ) → Counting t (f + more) → Counting (record t { ruled = t.ruled + f }) more
+counting_left t f more counting =
+    record { on = counting.on; room = omega (arith, counting.room); low_mark = counting.low_mark }
 
--- room for all orders below a demand is room for the orders below each that follows it
-pub counting_below : (cells : List ℕ) (K n : ℕ) → n + 1 < K → Counting cells (factorial (K - (n + 1))) →
-    Counting cells ((K - (n + 1)) * factorial (K - (n + 1 + 1)))
-counting_below cells K n h counting =
-    subst (λ (orders : ℕ). Counting cells orders)
+-- room for all orders of the demands left is room for the orders below each of them
+pub counting_below : (t : Tally) (K n : ℕ) → n < K → Counting t (factorial (K - n)) → Counting t ((K - n) * factorial (K - (n + 1)))
+counting_below t K n h counting =
+    subst (λ (orders : ℕ). Counting t orders)
     (sym
-    (ap (λ (m : ℕ). (K - (n + 1)) * factorial m) (let e : K - (n + 1 + 1) ≡ K - (n + 1) - 1 = omega arith in e)
-    ∙ orders_below (K - (n + 1)) (omega arith)))
+    (ap (λ (m : ℕ). (K - n) * factorial m) (let e : K - (n + 1) ≡ K - n - 1 = omega arith in e)
+    ∙ orders_below (K - n) (omega arith)))
     counting
 
--- a course that is not 0 does not go on
-stopped : (m : ℕ) → (m ≡ 0 → ⊥) → goes_on (course_of m) ≡ false
+-- a course that is not going does not go on
+pub stopped : (c : Course) → (c ≡ Going → ⊥) → goes_on (course_of c) ≡ false
 unfolding course_of goes_on
-stopped zero h = absurd (h refl)
-stopped (suc zero) h = refl
-stopped (suc (suc m)) h = refl
+stopped Going h = absurd (h refl)
+stopped AtBound h = refl
+stopped OutOfSteps h = refl
 
 module _ (table : List (List Bool)) (widths : List ℕ) (guard K : ℕ) (order low past : List ℕ) (n p largest : ℕ)
     (ready : Ready table widths guard K order low past n) (h : n ≤ p) (k : p < K)
@@ -134,109 +110,87 @@ module _ (table : List (List Bool)) (widths : List ℕ) (guard K : ℕ) (order l
       ∙ ap (λ (s : ℕ). record { who = get_or order n 0; at = s } ∷ rows_of low order n) (ready.kept n (omega arith) (omega arith))
       ∙ sym (place_is (problem_of table widths guard) (rows_of low order n) (get_or order n 0))
 
-module _ (P : Problem) (limit bound K : ℕ) (order low : List ℕ) (n p : ℕ) (cells plan along : List ℕ) (size : length cells ≡ 6)
-    (h : n ≤ p) (k : p < K) where
-  -- the tally after a step
-  abbrev after_step : List ℕ
-  after_step = set cells 0 (get_or cells 0 0 + 1)
-
+module _ (P : Problem) (limit bound K : ℕ) (order low : List ℕ) (n p : ℕ) (t : Tally) (h : n ≤ p) (k : p < K) where
   -- the limit is used up
-  pub ends_spent : limit ≤ get_or cells 0 0 →
-      tally_of K (set cells 4 2) plan along ≡ tried_from P limit bound K order low n p (tally_of K cells plan along)
-  unfolding tally_of
-  ends_spent spent =
-      cells_spent K cells plan along size ∙ sym (tried_spent P limit bound K order low n p (tally_of K cells plan along) k spent)
+  pub ends_spent : limit ≤ t.steps →
+      tally_of K (record t { course = OutOfSteps }) ≡ tried_from P limit bound K order low n p (tally_of K t)
+  unfolding tally_of course_of exhausted
+  ends_spent spent = sym (tried_spent P limit bound K order low n p (tally_of K t) k spent)
 
   -- the branch is left and the next sibling tried
-  pub ends_left : (cells' plan' along' : List ℕ) (f : ℕ) → f ≡ factorial (K - (n + 1)) → n + 1 < K → get_or cells 4 0 ≡ 0 → get_or cells 0 0 < limit →
-      get_or after_step 3 0 ≤ top P (place P (rows_of low order n) (get_or order p 0)) →
-      tally_of K cells' plan' along' ≡
-      tried_from P limit bound K order low n (p + 1)
-      (tally_of K (set after_step 2 (get_or after_step 2 0 + f)) plan along) →
-      tally_of K cells' plan' along' ≡ tried_from P limit bound K order low n p (tally_of K cells plan along)
-  unfolding tally_of course_of
-  ends_left cells' plan' along' f is more on due high next =
-      let t : Tally = tally_of K cells plan along in
-      next
-      ∙ ap (λ (u : Tally). tried_from P limit bound K order low n (p + 1) u)
-      (cells_left K after_step plan along (length-set cells 0 (get_or cells 0 0 + 1) ∙ size) f
-      ∙ ap (leave f) (cells_stepped K cells plan along size)
-      ∙ ap (λ (m : ℕ). leave m (stepped t)) is)
-      ∙ sym
-      (tried_left P limit bound K order low n p t h k more (ap course_of on) due
-      (omega (arith, get_or-set_other cells 0 3 (get_or cells 0 0 + 1) 0 (λ d. omega arith))))
-
-  -- what the walk below place p gave, in terms of the tally before the step
-  gone_stepped : (cells' plan' along' : List ℕ) →
-      tally_of K cells' plan' along' ≡ gone_into P limit bound K order low n p (tally_of K after_step plan along) →
-      tally_of K cells' plan' along' ≡ gone_into P limit bound K order low n p (stepped (tally_of K cells plan along))
-  gone_stepped cells' plan' along' gone =
-      gone ∙ ap (λ (u : Tally). gone_into P limit bound K order low n p u) (cells_stepped K cells plan along size)
+  pub ends_left : (f : ℕ) → f ≡ factorial (K - (n + 1)) → n + 1 < K → t.course ≡ Going → t.steps < limit →
+      t.mark ≤ top P (place P (rows_of low order n) (get_or order p 0)) →
+      tried_from P limit bound K order low n (p + 1) (tally_of K (record t { steps = t.steps + 1; ruled = t.ruled + f })) ≡
+      tried_from P limit bound K order low n p (tally_of K t)
+  unfolding tally_of course_of stepped leave
+  ends_left f is more on due high =
+      ap (λ (m : ℕ). tried_from P limit bound K order low n (p + 1) (leave m (stepped (tally_of K t)))) is
+      ∙ sym (tried_left P limit bound K order low n p (tally_of K t) h k more (ap course_of on) due high)
 
   -- the walk went below place p, and goes on with the next sibling
-  pub ends_into : (cells' plan' along' cells'' plan'' along'' : List ℕ) → n + 1 < K → get_or cells 0 0 < limit →
-      top P (place P (rows_of low order n) (get_or order p 0)) < get_or after_step 3 0 → get_or cells' 4 0 ≡ 0 →
-      tally_of K cells' plan' along' ≡ gone_into P limit bound K order low n p (tally_of K after_step plan along) →
-      tally_of K cells'' plan'' along'' ≡ tried_from P limit bound K order low n (p + 1) (tally_of K cells' plan' along') →
-      tally_of K cells'' plan'' along'' ≡ tried_from P limit bound K order low n p (tally_of K cells plan along)
-  unfolding tally_of course_of
-  ends_into cells' plan' along' cells'' plan'' along'' more due less on gone next =
-      let t : Tally = tally_of K cells plan along in
-      let same = gone_stepped cells' plan' along' gone in
-      next
-      ∙ ap (λ (u : Tally). tried_from P limit bound K order low n (p + 1) u) same
+  pub ends_into : (u : Tally) → n + 1 < K → t.steps < limit →
+      top P (place P (rows_of low order n) (get_or order p 0)) < t.mark → u.course ≡ Going →
+      tally_of K u ≡ gone_into P limit bound K order low n p (tally_of K (record t { steps = t.steps + 1 })) →
+      tried_from P limit bound K order low n (p + 1) (tally_of K u) ≡ tried_from P limit bound K order low n p (tally_of K t)
+  unfolding tally_of course_of stepped
+  ends_into u more due less on gone =
+      ap (λ (w : walk.Tally). tried_from P limit bound K order low n (p + 1) w) gone
       ∙ sym
-      (tried_into P limit bound K order low n p t h k more due
-      (omega (arith, get_or-set_other cells 0 3 (get_or cells 0 0 + 1) 0 (λ d. omega arith)))
-      (sym (ap (λ (u : Tally). u.course) same) ∙ ap course_of on))
+      (tried_into P limit bound K order low n p (tally_of K t) h k more due less
+      (sym (ap (λ (w : walk.Tally). w.course) gone) ∙ ap course_of on))
 
   -- the walk went below place p, and ended there
-  pub ends_ended : (cells' plan' along' : List ℕ) → n + 1 < K → get_or cells 0 0 < limit →
-      top P (place P (rows_of low order n) (get_or order p 0)) < get_or after_step 3 0 → (get_or cells' 4 0 ≡ 0 → ⊥) →
-      tally_of K cells' plan' along' ≡ gone_into P limit bound K order low n p (tally_of K after_step plan along) →
-      tally_of K cells' plan' along' ≡ tried_from P limit bound K order low n p (tally_of K cells plan along)
-  unfolding tally_of
-  ends_ended cells' plan' along' more due less off gone =
-      let t : Tally = tally_of K cells plan along in
-      let same = gone_stepped cells' plan' along' gone in
-      same
+  pub ends_ended : (u : Tally) → n + 1 < K → t.steps < limit →
+      top P (place P (rows_of low order n) (get_or order p 0)) < t.mark → (u.course ≡ Going → ⊥) →
+      tally_of K u ≡ gone_into P limit bound K order low n p (tally_of K (record t { steps = t.steps + 1 })) →
+      tally_of K u ≡ tried_from P limit bound K order low n p (tally_of K t)
+  unfolding tally_of stepped
+  ends_ended u more due less off gone =
+      gone
       ∙ sym
-      (tried_ended P limit bound K order low n p t k more due
-      (omega (arith, get_or-set_other cells 0 3 (get_or cells 0 0 + 1) 0 (λ d. omega arith)))
-      (sym (ap (λ (u : Tally). goes_on u.course) same) ∙ stopped (get_or cells' 4 0) off))
+      (tried_ended P limit bound K order low n p (tally_of K t) k more due less
+      (sym (ap (λ (w : walk.Tally). goes_on w.course) gone) ∙ stopped u.course off))
 
   -- after the walk below place p there is room for the orders of the other siblings
-  pub counting_gone : (cells' plan' along' : List ℕ) (more : ℕ) → length cells' ≡ 6 → get_or cells' 4 0 ≡ 0 →
-      Counting cells (factorial (K - (n + 1)) + more) →
-      tally_of K cells' plan' along' ≡ gone_into P limit bound K order low n p (tally_of K cells plan along) → Counting cells' more
+  pub counting_gone : (u : Tally) (more : ℕ) → u.course ≡ Going → Counting t (factorial (K - (n + 1)) + more) →
+      tally_of K u ≡ gone_into P limit bound K order low n p (tally_of K t) → Counting u more
   unfolding tally_of course_of
-  counting_gone cells' plan' along' more size' on' counting gone =
-      let t : Tally = tally_of K cells plan along in
-      let reached = ap (λ (u : Tally). u.reached) gone in
-      let ruled = ap (λ (u : Tally). u.ruled) gone in
-      let mark = ap (λ (u : Tally). u.mark) gone in
+  counting_gone u more on' counting gone =
+      let reached = ap (λ (w : walk.Tally). w.reached) gone in
+      let ruled = ap (λ (w : walk.Tally). w.ruled) gone in
+      let mark = ap (λ (w : walk.Tally). w.mark) gone in
       record {
-        size = size';
         on = on';
         room =
-            omega (arith, reached, ruled, counting.room, gone_counts P limit bound K order low n p t h k (ap course_of counting.on));
-        low_mark = omega (arith, mark, counting.low_mark, gone_mark P limit bound K order low n p t h k (ap course_of counting.on));
+            omega (
+              arith,
+              reached,
+              ruled,
+              counting.room,
+              gone_counts P limit bound K order low n p (tally_of K t) h k (ap course_of counting.on),
+            );
+        low_mark =
+            omega (
+              arith,
+              mark,
+              counting.low_mark,
+              gone_mark P limit bound K order low n p (tally_of K t) h k (ap course_of counting.on),
+            );
       }
 
 -- the last demand was put down: the order is complete
 pub ends_last : (table : List (List Bool)) (widths : List ℕ) (guard K : ℕ) (order low past : List ℕ) (n p largest : ℕ) →
     (ready : Ready table widths guard K order low past n) → n ≤ p → p < K →
-    largest ≡ top (problem_of table widths guard) (rows_of low order n) → (limit bound e : ℕ) (cells plan along cells' plan' along' : List ℕ) →
-    length cells ≡ 6 → K - (n + 1) ≡ 0 → get_or cells 0 0 < limit →
+    largest ≡ top (problem_of table widths guard) (rows_of low order n) → (limit bound e : ℕ) (t u : Tally) →
+    K - (n + 1) ≡ 0 → t.steps < limit →
     e ≡ max largest (get_or low (get_or order p 0) 0 + get_or widths (get_or order p 0) 0) →
-    tally_of K cells' plan' along' ≡
-    reached_at e bound (rows_of low order K) (entries order 0 K) (tally_of K (set cells 0 (get_or cells 0 0 + 1)) plan along) →
-    tally_of K cells' plan' along' ≡
-    tried_from (problem_of table widths guard) limit bound K order low n p (tally_of K cells plan along)
-unfolding tally_of
-ends_last table widths guard K order low past n p largest ready h k is limit bound e cells plan along cells' plan' along' size last due end done =
+    tally_of K u ≡
+    reached_at e bound (rows_of low order K) (entries order 0 K) (tally_of K (record t { steps = t.steps + 1 })) →
+    tally_of K u ≡ tried_from (problem_of table widths guard) limit bound K order low n p (tally_of K t)
+unfolding tally_of stepped
+ends_last table widths guard K order low past n p largest ready h k is limit bound e t u last due end done =
     let P : Problem = problem_of table widths guard in
-    let t : Tally = tally_of K cells plan along in
+    let after : walk.Tally = stepped (tally_of K t) in
     let all : n + 1 ≡ K = omega arith in
     let only : p ≡ n = omega arith in
     let rows = last_rows table widths guard K order low past n p largest ready h k is all in
@@ -245,11 +199,8 @@ ends_last table widths guard K order low past n p largest ready h k is limit bou
     ∙ step_end table widths guard K order low past n p largest ready h k is
     ∙ ap (λ (q : ℕ). top P (place P (rows_of low order n) (get_or order q 0))) only in
     done
-    ∙ ap (λ (u : Tally). reached_at e bound (rows_of low order K) (entries order 0 K) u) (cells_stepped K cells plan along size)
-    ∙ ap (λ (r : List Row). reached_at e bound r (entries order 0 K) (stepped t)) rows
-    ∙ ap
-    (λ (m : ℕ). reached_at m bound (place P (rows_of low order n) (get_or order n 0)) (entries order 0 K) (stepped t))
-    e-is
-    ∙ sym (complete_reached P limit bound (place P (rows_of low order n) (get_or order n 0)) (entries order 0 K) (stepped t))
-    ∙ sym (tried_last P limit bound K order low n t all due)
-    ∙ ap (λ (q : ℕ). tried_from P limit bound K order low n q t) (sym only)
+    ∙ ap (λ (r : List Row). reached_at e bound r (entries order 0 K) after) rows
+    ∙ ap (λ (m : ℕ). reached_at m bound (place P (rows_of low order n) (get_or order n 0)) (entries order 0 K) after) e-is
+    ∙ sym (complete_reached P limit bound (place P (rows_of low order n) (get_or order n 0)) (entries order 0 K) after)
+    ∙ sym (tried_last P limit bound K order low n (tally_of K t) all due)
+    ∙ ap (λ (q : ℕ). tried_from P limit bound K order low n q (tally_of K t)) (sym only)

@@ -2,10 +2,10 @@
 use Prim.Native.Nat.{ℕ, ◌≤◌, ◌<◌}
 use Rattle.std.proofs.Math.Bool.{Bool, false}
 use mathlib.Core.List.{List, [], map}
-use Rattle.std.proofs.Common.{⊎_elim, sym, ◌∙◌, arith}
+use Rattle.std.proofs.Common.{⊎_elim, sym, ◌∙◌, arith, ext_get_or}
 use Rattle.std.specs.Prelude.{◌≡◌}
 use Rattle.std.proofs.Math.Path.{ap, fun_ext}
-use Rattle.std.proofs.Math.ListN.{get_or, length-map, get_or-eq_default}
+use Rattle.std.proofs.Math.ListN.{get_or, length, length-map, get_or-eq_default}
 use Rattle.theory.specs.Orders.{listing}
 use Rattle.theory.proofs.ListingLaws.{listing_length}
 use Rattle.theory.proofs.TriedLaws.{below_or_not}
@@ -17,6 +17,13 @@ use Rattle.meeting.specs.inner.Small.{problem_in, Small}
 use Rattle.search.specs.inner.Arrays.{problem_of}
 use Rattle.search.specs.inner.Kept.{Sized}
 use Rattle.search.specs.inner.Table.{table_row, meeting_table}
+
+-- a list of n entries, each of which is what is made of its place, is what is made of the listing positions
+pub listed_all : {A : Type 0} (f : ℕ → A) (xs : List A) (n : ℕ) (none : A) → length xs ≡ n →
+    ((k : ℕ) → k < n → get_or xs k none ≡ f k) → xs ≡ map f (listing n)
+listed_all f xs n none long all =
+    ext_get_or none xs (map f (listing n)) (long ∙ sym (length-map (listing n) f ∙ listing_length n))
+    (λ k h. let low : k < n = omega arith in all k low ∙ sym (listing_at f n k none low))
 
 module _ (words : List ℕ) where
   -- the row of the word at a place

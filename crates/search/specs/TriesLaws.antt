@@ -14,7 +14,8 @@ use Rattle.theory.proofs.WalkBranchLaws.{judge_complete, judge_left, judge_deepe
 use Rattle.theory.proofs.WalkLaws.{walk_mark, walk_counts}
 use Rattle.search.specs.inner.Arrays.{entries, rows_of}
 use Rattle.search.specs.ArraysLaws.{entries_none, entries_first, entries_last, entries_length}
-use Rattle.search.specs.inner.Tries.{reached_at, tried_from, gone_into}
+use Rattle.search.specs.inner.Tally.{reached_at}
+use Rattle.search.specs.inner.Tries.{tried_from, gone_into}
 
 -- a complete order is reached at the top of its rows
 pub complete_reached : (P : Problem) (limit bound : ℕ) (rows : List Row) (order : List ℕ) (t : Tally) →

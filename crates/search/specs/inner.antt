@@ -3,6 +3,8 @@ pub mod Table
 pub mod Arrays
 pub mod Scan
 pub mod Kept
+pub mod Tally
 pub mod Tries
+pub mod Level
 pub mod Told
 pub mod Found

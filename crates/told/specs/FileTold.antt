@@ -1,10 +1,8 @@
 -- All that a program in C is told of a request file by the two calls that read: both answers, and what they leave at the front of the
 -- six buffers.
-use Rattle.std.specs.Prelude.{ℕ, ◌*◌, List, length, take}
-use Rattle.request.specs.declared.Written.TheVariants.{Wrote}
+use Rattle.std.specs.Prelude.{ℕ, ◌*◌, List, length, take, Ok}
 use Rattle.request.specs.View.{View, idents}
 use Rattle.reading.specs.Reading.{FileReading}
-use Rattle.meeting.specs.declared.BoundReply.TheVariants as bound-reply
 use Rattle.meeting.specs.Bound.{bound_of}
 use Rattle.columns.specs.Columns.{widths, rates, hop_counts, route_links, link_ends, DemandBuffers, demand_rooms}
 use Rattle.told.specs.declared.LightplanRequest.{LightplanRequest}
@@ -56,8 +54,8 @@ told_of read lent =
 unfoldable pub whole_told : View → FileTold
 whole_told v =
     record {
-      request = request_told (bound-reply.Bound (bound_of v)) v;
-      lists = routes_told (Wrote (length (route_links v.demands))) v;
+      request = request_told (Ok (bound_of v)) v;
+      lists = routes_told (Ok (length (route_links v.demands))) v;
       idents = idents v.demands;
       widths = widths v.demands;
       rates = rates v.demands;

@@ -1,13 +1,9 @@
 -- What C is told of a request file: structs of numbers, from how the file reads; and what the lent buffers hold afterwards.
-use Rattle.std.specs.Prelude.{ℕ, List, pos}
+use Rattle.std.specs.Prelude.{ℕ, List, pos, Result, Ok, Err}
 use Rattle.refusal.specs.declared.Refusal.{Refusal}
 use Rattle.refusal.specs.Refusal.{number_of, place_of}
-use Rattle.request.specs.declared.Written.{Written}
-use Rattle.request.specs.declared.Written.TheVariants.{Wrote, Refused as Unwritten}
 use Rattle.request.specs.View.{View}
 use Rattle.reading.specs.Reading.{FileReading, refused, accepted}
-use Rattle.meeting.specs.declared.BoundReply.{BoundReply}
-use Rattle.meeting.specs.declared.BoundReply.TheVariants as bound-reply
 use Rattle.meeting.specs.Reply.{bound_reply}
 use Rattle.columns.specs.Columns.{DemandBuffers, demand_reply, route_reply, demands_after, ends_after, hops_after, routes_after}
 use Rattle.told.specs.declared.LightplanRequest.{LightplanRequest}
@@ -21,9 +17,9 @@ request_refused why =
     record { refusal = number_of why; place = place_of why; n0 = pos 0; slots = 0; guard = 0; links = 0; demands = 0; bound = 0 }
 
 -- a request and the reply for its bound: 0 at place 0, its band, how many links and demands it has, and the bound; or the refusal
-unfoldable pub request_told : BoundReply → View → LightplanRequest
+unfoldable pub request_told : Result ℕ Refusal → View → LightplanRequest
 unfolding request_refused
-request_told (bound-reply.Bound need) v =
+request_told (Ok need) v =
     record {
       refusal = 0;
       place = 0;
@@ -34,13 +30,13 @@ request_told (bound-reply.Bound need) v =
       demands = v.demand_count;
       bound = need;
     }
-request_told (bound-reply.Refused why) v = request_refused why
+request_told (Err why) v = request_refused why
 
 -- after the columns of the demands: the request, or why they were not written
-unfoldable pub request_after : Written → View → LightplanRequest
+unfoldable pub request_after : Result ℕ Refusal → View → LightplanRequest
 unfolding request_refused request_told
-request_after (Wrote count) v = request_told (bound_reply v) v
-request_after (Unwritten why) v = request_refused why
+request_after (Ok count) v = request_told (bound_reply v) v
+request_after (Err why) v = request_refused why
 
 -- the answer for a file and buffers of these rooms: the reader's refusal, 10, or the request
 unfoldable pub request_entry : FileReading → List ℕ → LightplanRequest
@@ -60,10 +56,10 @@ unfoldable pub routes_refused : Refusal → LightplanRoutes
 routes_refused why = record { refusal = number_of why; place = place_of why; links = 0; demands = 0; hops = 0 }
 
 -- after their columns: 0 at place 0, how many links, demands and links of routes there are; or why they were not written
-unfoldable pub routes_told : Written → View → LightplanRoutes
+unfoldable pub routes_told : Result ℕ Refusal → View → LightplanRoutes
 unfolding routes_refused
-routes_told (Wrote total) v = record { refusal = 0; place = 0; links = v.link_count; demands = v.demand_count; hops = total }
-routes_told (Unwritten why) v = routes_refused why
+routes_told (Ok total) v = record { refusal = 0; place = 0; links = v.link_count; demands = v.demand_count; hops = total }
+routes_told (Err why) v = routes_refused why
 
 -- the answer for a file and buffers of these lengths: the reader's refusal, 10, or the three counts
 unfoldable pub routes_entry : FileReading → ℕ → ℕ → ℕ → LightplanRoutes

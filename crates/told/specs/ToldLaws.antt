@@ -1,5 +1,5 @@
 -- Reading in C tells all of a request: two files that are told alike are the same file.
-use Rattle.std.specs.Prelude.{ℕ, ◌*◌, ◌<◌, true, ◌≡◌, refl, length}
+use Rattle.std.specs.Prelude.{ℕ, ◌*◌, ◌<◌, true, ◌≡◌, refl, length, Result, Ok, Err}
 use mathlib.Core.List.{List}
 use Rattle.std.proofs.Common.{sym, ap₂, ◌∙◌, arith}
 use Rattle.std.proofs.Math.Path.{ap}
@@ -10,9 +10,6 @@ use Rattle.refusal.specs.declared.Refusal.{Refusal}
 use Rattle.refusal.specs.Refusal.{number_of}
 use Rattle.refusal.specs.RefusalLaws.{some_number}
 use Rattle.grid.specs.declared.Band.{Band}
-use Rattle.request.specs.declared.Checked.TheVariants as checked
-use Rattle.request.specs.declared.Written.{Written}
-use Rattle.request.specs.declared.Written.TheVariants.{Wrote}
 use Rattle.request.specs.View.{DemandView, View, demand_at, idents, width_of}
 use Rattle.request.specs.Check.{known_asked}
 use Rattle.request.proofs.SoundLaws.{check_sound}
@@ -20,8 +17,6 @@ use Rattle.reading.specs.Reading.{FileReading, refused, accepted, read_file}
 use Rattle.request.proofs.CheckLaws.{by_check}
 use Rattle.request.specs.RoundTrip.{Bytes}
 use Rattle.writing.specs.RoundTripLaws.{accepted_encodes, one_encoding}
-use Rattle.meeting.specs.declared.BoundReply.{BoundReply}
-use Rattle.meeting.specs.declared.BoundReply.TheVariants as bound-reply
 use Rattle.meeting.specs.Bound.{bound_of}
 use Rattle.meeting.specs.ReplyLaws.{bound_answered}
 use Rattle.lent.specs.Lent.{over, write_answer}
@@ -69,21 +64,21 @@ by_reading (accepted v) if-accepted if-refused = if-accepted v refl
 by_reading (refused why) if-accepted if-refused = if-refused why refl
 
 -- an answer of `lightplan_read` passed its tests
-passed_demands : (v : View) (rooms : List ℕ) → (request_after (demand_reply v rooms) v).refusal ≡ 0 → check_demand_columns v rooms ≡ checked.Sound
+passed_demands : (v : View) (rooms : List ℕ) → (request_after (demand_reply v rooms) v).refusal ≡ 0 → check_demand_columns v rooms ≡ Ok tt
 unfolding request_after demand_reply write_answer request_refused
 passed_demands v rooms h =
     by_check (check_demand_columns v rooms)
-    (λ (passed : check_demand_columns v rooms ≡ checked.Sound). passed)
-    (λ (why : Refusal) (failed : check_demand_columns v rooms ≡ checked.Refused why).
+    (λ (passed : check_demand_columns v rooms ≡ Ok tt). passed)
+    (λ (why : Refusal) (failed : check_demand_columns v rooms ≡ Err why).
     let number : number_of why ≡ 0 = rw failed at h in absurd (omega (arith, number, some_number why)))
 
 -- and so did one of `lightplan_read_routes`
-passed_routes : (v : View) (a b c : ℕ) → (routes_told (route_reply v a b c) v).refusal ≡ 0 → check_route_columns v a b c ≡ checked.Sound
+passed_routes : (v : View) (a b c : ℕ) → (routes_told (route_reply v a b c) v).refusal ≡ 0 → check_route_columns v a b c ≡ Ok tt
 unfolding routes_told route_reply write_answer routes_refused
 passed_routes v a b c h =
     by_check (check_route_columns v a b c)
-    (λ (passed : check_route_columns v a b c ≡ checked.Sound). passed)
-    (λ (why : Refusal) (failed : check_route_columns v a b c ≡ checked.Refused why).
+    (λ (passed : check_route_columns v a b c ≡ Ok tt). passed)
+    (λ (why : Refusal) (failed : check_route_columns v a b c ≡ Err why).
     let number : number_of why ≡ 0 = rw failed at h in absurd (omega (arith, number, some_number why)))
 
 -- where both calls answer, all of the request is told
@@ -96,9 +91,9 @@ module _ (v : View) (lent : Buffers) (links : length v.links ≡ v.link_count) (
       let told = demands_written v lent.demands passed in
       let told' = routes_written v lent.ends lent.hops lent.routes passed' in
       let sound = demands_sound v (demand_rooms lent.demands) passed in
-      let request : request_of (accepted v) lent ≡ request_told (bound-reply.Bound (bound_of v)) v
-      = ap (λ (a : Written). request_after a v) (sym told.0) ∙ ap (λ (b : BoundReply). request_told b v) (sym (bound_answered v (bound_of v) sound refl)) in
-      let lists : lists_of (accepted v) lent ≡ routes_told (Wrote (length (route_links v.demands))) v = ap (λ (a : Written). routes_told a v) (sym told'.0) in
+      let request : request_of (accepted v) lent ≡ request_told (Ok (bound_of v)) v
+      = ap (λ (a : Result ℕ Refusal). request_after a v) (sym told.0) ∙ ap (λ (b : Result ℕ Refusal). request_told b v) (sym (bound_answered v (bound_of v) sound refl)) in
+      let lists : lists_of (accepted v) lent ≡ routes_told (Ok (length (route_links v.demands))) v = ap (λ (a : Result ℕ Refusal). routes_told a v) (sym told'.0) in
       same_told (told_of (accepted v) lent) (whole_told v) request lists
       (ap₂ (λ (r : LightplanRequest) (b : DemandBuffers). take r.demands b.idents) request (sym told.1)
       ∙ front (idents v.demands) lent.demands.idents v.demand_count (length-map v.demands (λ (d : DemandView). d.ident) ∙ demands))

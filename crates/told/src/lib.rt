@@ -10,14 +10,14 @@ ghost use Rattle.columns.specs.Columns.{lent_demands, demand_rooms};
 ghost use Rattle.told.specs.RequestTold.{request_refused, request_told, request_entry, demands_read, routes_refused, routes_entry, ends_read, hops_read, routes_read};
 
 use columns::{demand_columns, route_columns};
-use meeting::{BoundReply, bound};
+use meeting::bound;
 use reading::read_request;
 use refusal::Refusal;
-use request::{Checked, Request, Written};
+use request::Request;
 
 // What a request file holds: its band, how many links and demands it has, and its bound.
 #[repr(C)]
-#[derive(Drop)]
+#[derive(Default, Drop)]
 pub struct LightplanRequest {
     pub refusal: u8,
     pub place: usize,
@@ -31,13 +31,38 @@ pub struct LightplanRequest {
 
 // How long the lists of a request file are: its links, its demands, and the links of all routes.
 #[repr(C)]
-#[derive(Drop)]
+#[derive(Default, Drop)]
 pub struct LightplanRoutes {
     pub refusal: u8,
     pub place: usize,
     pub links: usize,
     pub demands: usize,
     pub hops: usize,
+}
+
+// A refusal is told by its number and its place.
+impl From<Refusal> for LightplanRequest {
+    ghost from_gives = { λ why told. told ≡ request_refused why };
+
+    fn from(why: Refusal) -> LightplanRequest {
+        LightplanRequest {
+            refusal: why.number(),
+            place: why.place(),
+            ..LightplanRequest::default()
+        }
+    }
+}
+
+impl From<Refusal> for LightplanRoutes {
+    ghost from_gives = { λ why told. told ≡ routes_refused why };
+
+    fn from(why: Refusal) -> LightplanRoutes {
+        LightplanRoutes {
+            refusal: why.number(),
+            place: why.place(),
+            ..LightplanRoutes::default()
+        }
+    }
 }
 
 // Reads a request file. `idents`, `widths` and `rates` get the ident, the width and the rate of each demand by listing position, a rate of
@@ -53,17 +78,15 @@ pub fn request_told(
     ensures widths { widths.new ≡ (demands_read (read_file file.now) (lent_demands idents.old widths.old rates.old)).widths }
     ensures rates { rates.new ≡ (demands_read (read_file file.now) (lent_demands idents.old widths.old rates.old)).rates }
 {
-    let reading = read_request(file);
-    let verdict = reading.verdict;
-    let request = reading.request;
-    if let Checked::Refused(why) = verdict {
-        return request_refused(why);
+    // Kept as it is: what the exported function answers is made here, a struct of numbers and no Result, so there is no `?`.
+    let request = match read_request(file) {
+        Ok(request) => request,
+        Err(why) => return LightplanRequest::from(why),
+    };
+    match demand_columns(request, idents, widths, rates) {
+        Ok(_) => numbers_told(request),
+        Err(why) => LightplanRequest::from(why),
     }
-    let written = demand_columns(request, idents, widths, rates);
-    if let Written::Refused(why) = written {
-        return request_refused(why);
-    }
-    numbers_told(request)
 }
 
 // Reads the links and the routes of a request file. `ends` gets the two nodes of each link by its number, `hops` how many links each
@@ -80,37 +103,19 @@ pub fn routes_told(
     ensures hops { hops.new ≡ hops_read (read_file file.now) ends.old hops.old routes.old }
     ensures routes { routes.new ≡ routes_read (read_file file.now) ends.old hops.old routes.old }
 {
-    let reading = read_request(file);
-    let verdict = reading.verdict;
-    let request = reading.request;
-    if let Checked::Refused(why) = verdict {
-        return routes_refused(why);
-    }
-    let written = route_columns(request, ends, hops, routes);
-    match written {
-        Written::Wrote(total) => LightplanRoutes {
+    let request = match read_request(file) {
+        Ok(request) => request,
+        Err(why) => return LightplanRoutes::from(why),
+    };
+    match route_columns(request, ends, hops, routes) {
+        Ok(total) => LightplanRoutes {
             refusal: 0,
             place: 0,
             links: request.link_count,
             demands: request.demand_count,
             hops: total,
         },
-        Written::Refused(why) => routes_refused(why),
-    }
-}
-
-fn request_refused(why: Refusal) -> LightplanRequest
-    ensures { result ≡ request_refused why }
-{
-    LightplanRequest {
-        refusal: why.number(),
-        place: why.place(),
-        n0: 0,
-        slots: 0,
-        guard: 0,
-        links: 0,
-        demands: 0,
-        bound: 0,
+        Err(why) => LightplanRoutes::from(why),
     }
 }
 
@@ -118,31 +123,17 @@ fn request_refused(why: Refusal) -> LightplanRequest
 fn numbers_told(request: Request) -> LightplanRequest
     ensures { result ≡ request_told (bound_reply (view request)) (view request) }
 {
-    let reply = bound(request);
-    let band = request.band;
-    match reply {
-        BoundReply::Bound(need) => LightplanRequest {
+    match bound(request) {
+        Ok(need) => LightplanRequest {
             refusal: 0,
             place: 0,
-            n0: band.n0,
-            slots: band.slots,
-            guard: band.guard,
+            n0: request.band.n0,
+            slots: request.band.slots,
+            guard: request.band.guard,
             links: request.link_count,
             demands: request.demand_count,
             bound: need,
         },
-        BoundReply::Refused(why) => request_refused(why),
-    }
-}
-
-fn routes_refused(why: Refusal) -> LightplanRoutes
-    ensures { result ≡ routes_refused why }
-{
-    LightplanRoutes {
-        refusal: why.number(),
-        place: why.place(),
-        links: 0,
-        demands: 0,
-        hops: 0,
+        Err(why) => LightplanRequest::from(why),
     }
 }

@@ -2,24 +2,23 @@
 use mathlib.Core.List.Memᴰ
 use mathlib.Core.List.{List, [], ◌∷◌, map, Memᴰ}
 use Rattle.std.proofs.Common.{⊎_elim, sym, ap, subst, ◌∙◌}
-use Rattle.std.specs.Prelude.{◌≡◌, refl, get_or, drop}
-use Rattle.request.specs.declared.Checked.TheVariants as checked
-use Rattle.reading.specs.declared.Reading.{Reading}
+use Rattle.std.specs.Prelude.{◌≡◌, refl, get_or, drop, Ok}
 use Rattle.request.specs.View.{View, view}
 use Rattle.reading.specs.Reading.{FileReading, refused, accepted, read_file}
+use Rattle.request.specs.Packing.{pack}
+use Rattle.request.specs.Encoding.{encode}
 use Rattle.reading.specs.FilePacking.{pack_reading}
 use Rattle.writing.specs.RoundTripLaws.{read_seen}
-use Rattle.worked.specs.Calls.{Call, Said, say, say_read, say_verdict, first_fit, bound, search, check_starts, to_frequency, from_frequency, read_request}
+use Rattle.worked.specs.Calls.{Call, Said, reads, say, say_read, say_reading, first_fit, bound, search, check_starts, to_frequency, from_frequency, read_request}
 use Rattle.worked.specs.ByContract.{Gives}
 use Rattle.worked.specs.Table.{Case, table}
 use Rattle.worked.specs.Worked.{worked}
 
 -- what was read says what its reading says
-read_told : (read : FileReading) → ((v : View) → read ≡ accepted v → view (pack_reading read).request ≡ v) →
-    say_verdict (pack_reading read).verdict (view (pack_reading read).request) ≡ say_read read
-unfolding say_verdict say_read pack_reading
+read_told : (read : FileReading) → ((v : View) → read ≡ accepted v → view (pack v) ≡ v) → say_reading (pack_reading read) ≡ say_read read
+unfolding say_reading say_read pack_reading encode
 read_told (refused why) seen = refl
-read_told (accepted v) seen = ap (say_verdict checked.Sound) (seen v refl)
+read_told (accepted v) seen = ap (λ (w : View). reads w (encode w)) (seen v refl)
 
 -- every call gives what it says
 gives_says : (call : Call) → Gives call (say call)
@@ -32,7 +31,7 @@ gives_says (to_frequency band start width) = λ r hr. rw hr
 gives_says (from_frequency band n m) = λ r hr. rw hr
 gives_says (read_request file) =
     λ bytes r hr.
-    ap (λ (x : Reading). say_verdict x.verdict (view x.request)) hr ∙ read_told (read_file file) (λ v e. read_seen file v bytes e)
+    ap say_reading hr ∙ read_told (read_file file) (λ v e. read_seen file v bytes e)
 
 -- lists of the same answers have the same answer for each member
 each_same : (f g : Case → Said) (cases : List Case) → map f cases ≡ map g cases → (c : Case) → Memᴰ c cases → f c ≡ g c

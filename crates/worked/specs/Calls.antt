@@ -1,12 +1,12 @@
 -- The public calls, and what each answers: the very definitions that their contracts cite, told by number and values.
-use Rattle.std.specs.Prelude.{ℕ, List, [], ◌∷◌, length, ℤ}
+use Rattle.refusal.specs.declared.Refusal.{Refusal}
+use Rattle.request.specs.declared.Request.{Request}
+use Rattle.std.specs.Prelude.{ℕ, List, [], ◌∷◌, length, ℤ, Result, Ok, Err}
 use Rattle.refusal.specs.Told.{Told}
 use Rattle.grid.specs.declared.Band.{Band}
 use Rattle.grid.specs.Grid.{frequency_reply, block_reply}
 use Rattle.grid.specs.Told.{centre_told, block_told}
-use Rattle.request.specs.declared.Checked.{Checked}
-use Rattle.request.specs.declared.Checked.TheVariants as checked
-use Rattle.request.specs.View.{View}
+use Rattle.request.specs.View.{View, view}
 use Rattle.request.specs.Encoding.{encode}
 use Rattle.request.specs.Told.{checked_told}
 use Rattle.reading.specs.Reading.{FileReading, refused, accepted, read_file}
@@ -48,16 +48,16 @@ abbrev pub shown : Buffers → List (List ℕ)
 shown after = after.starts ∷ after.order ∷ after.blockers ∷ []
 
 -- what a reading says: the refusal, or the request
-unfoldable pub say_verdict : Checked → View → Said
+unfoldable pub say_reading : Result Request Refusal → Said
 unfolding encode checked_told
-say_verdict checked.Sound v = reads v (encode v)
-say_verdict (checked.Refused why) v = says (checked_told (checked.Refused why)) []
+say_reading (Ok request) = reads (view request) (encode (view request))
+say_reading (Err why) = says (checked_told (Err why)) []
 
 -- the same of what is read
 unfoldable pub say_read : FileReading → Said
 unfolding encode checked_told
 say_read (accepted v) = reads v (encode v)
-say_read (refused why) = says (checked_told (checked.Refused why)) []
+say_read (refused why) = says (checked_told (Err why)) []
 
 -- what a call answers, and what it leaves in its buffers
 unfoldable pub say : Call → Said

@@ -1,5 +1,5 @@
 -- Requests and files: reading accepts exactly the encodings of sound requests, and what goes there and back is the same.
-use Rattle.std.specs.Prelude.{ℕ, ◌+◌, ◌≤◌, ◌<◌, true, List, [], ◌∷◌, ◌++◌, ◌≢◌, ◌≡◌, refl, length, get_or, take, drop, leb}
+use Rattle.std.specs.Prelude.{ℕ, ◌+◌, ◌≤◌, ◌<◌, true, List, [], ◌∷◌, ◌++◌, ◌≢◌, ◌≡◌, refl, length, get_or, take, drop, leb, Result, Ok, Err}
 use Rattle.std.proofs.Common.{sym, ap, subst, ◌∙◌, arith, take_at, drop-drop}
 use Rattle.std.proofs.Math.Seq.{drop-append_seam}
 use Rattle.refusal.specs.declared.Refusal.{Refusal}
@@ -8,9 +8,7 @@ use Rattle.grid.specs.declared.Band.{Band}
 use Rattle.grid.specs.Grid.{allowed_band}
 use Rattle.request.specs.declared.Link.{Link}
 use Rattle.request.specs.declared.Request.{Request}
-use Rattle.request.specs.declared.Checked.TheVariants.{Sound, Refused}
-use Rattle.request.specs.declared.Written.{Written}
-use Rattle.request.specs.declared.Written.TheVariants.{Wrote, Refused as Unwritten}
+use Rattle.request.specs.Packing.{pack}
 use Rattle.request.specs.View.{DemandView, View, view, demand_at, idents}
 use Rattle.request.specs.Check.{then, check_band, check_some_link, check_links, check_link_count, check_demands, check_demand_count, check, must}
 use Rattle.request.proofs.CheckLaws.{next_sound, band_passes, some_link_lem, few_links, few_demands, by_check}
@@ -20,7 +18,7 @@ use Rattle.request.specs.inner.Limits.{Limits}
 use Rattle.request.proofs.LimitsLaws.{sound_limits}
 use Rattle.request.specs.Encoding.{field, demand_field, band_field, link_fields, demand_fields, encode}
 use Rattle.request.proofs.EncodingLaws.{links_bytes, file_bytes}
-use Rattle.reading.specs.Reading.{FileReading, refused, accepted, band_in, check_band_field, LinksRead, links_refused, links_read, read_links, demands_begin, DemandsRead, demands_refused, demands_read, read_demands, with_demands, with_links, with_band, read_file}
+use Rattle.reading.specs.Reading.{refused, accepted, band_in, check_band_field, LinksRead, links_refused, links_read, read_links, demands_begin, DemandsRead, demands_refused, demands_read, read_demands, with_demands, with_links, with_band, read_file}
 use Rattle.fields.specs.FieldLaws.{field_sound}
 use Rattle.reading.specs.ReadingLaws.{band_holds, band_long, band_sound}
 use Rattle.reading.specs.FileLaws.{file_links}
@@ -39,7 +37,7 @@ use Rattle.reading.specs.inner.Encoded.{LinksEncoded, DemandsEncoded, request_of
 use Rattle.request.specs.declared.Asked.TheVariants.{Width, Rate}
 
 -- links and demands that were read make an accepted request
-parts_accepted : (s : List ℕ) (links : List Link) (end : ℕ) (demands : List DemandView) → Bytes s → check_band_field s ≡ Sound →
+parts_accepted : (s : List ℕ) (links : List Link) (end : ℕ) (demands : List DemandView) → Bytes s → check_band_field s ≡ Ok tt →
     LinksEncoded s 8 [] links end → DemandsEncoded (band_in s).slots links s end [] demands → Accepted s (request_of (band_in s) links demands)
 unfolding request_of check encode idents
 parts_accepted s links end demands bytes band read asked =
@@ -88,7 +86,7 @@ unfolding read_file with_band
 accepted_encodes s v bytes e =
     let limit = must (leb (length s) 8128) (FileTooLong 8128) in
     by_check (then limit (check_band_field s))
-    (λ (sound : then limit (check_band_field s) ≡ Sound).
+    (λ (sound : then limit (check_band_field s) ≡ Ok tt).
     let band = next_sound limit (check_band_field s) sound in
     let after-band : with_links s (band_in s) (read_links 65 s 8 []) ≡ accepted v = rw sound at e in
     let links = links_were_read s (band_in s) (read_links 65 s 8 []) v after-band in
@@ -96,7 +94,7 @@ accepted_encodes s v bytes e =
     let demands = demands_were_read (band_in s) links.0 (read_demands 201 (band_in s).slots links.0 s links.1 []) v links.2.1 in
     let asked = demands_encoded 201 (band_in s).slots links.0 s links.1 [] demands.0 bytes read.within (omega arith) demands.1.0 in
     subst (Accepted s) demands.1.1 (parts_accepted s links.0 links.1 demands.0 bytes band read asked))
-    (λ (why : Refusal) (fault : then limit (check_band_field s) ≡ Refused why).
+    (λ (why : Refusal) (fault : then limit (check_band_field s) ≡ Err why).
     let no : refused why ≡ accepted v = rw fault at e in
     absurd (let z : ◌≡◌ {A = ℕ} 0 1 = cc in omega arith))
 
@@ -107,7 +105,7 @@ demands_next [] = refl
 demands_next (d ∷ demands) = tag_begins d.asked
 
 -- the numbers of a sound request's file
-sound_file : (v : View) → Counted v → check v ≡ Sound → Limits v × (length (encode v) ≤ 8128)
+sound_file : (v : View) → Counted v → check v ≡ Ok tt → Limits v × (length (encode v) ≤ 8128)
 sound_file v counted sound =
     let is-sound = check_sound v counted sound in
     let limits = sound_limits v counted is-sound in
@@ -130,7 +128,7 @@ phases_back s v end band links demands link-count demand-count =
     ap (λ (n : ℕ). accepted (record { band = v.band; link_count = v.link_count; links = v.links; demand_count = n; demands = v.demands })) demand-count
 
 -- reading accepts every encoding of a sound request, as that request
-pub encoding_accepted : (v : View) → Counted v → Idents16 v → check v ≡ Sound → read_file (encode v) ≡ accepted v
+pub encoding_accepted : (v : View) → Counted v → Idents16 v → check v ≡ Ok tt → read_file (encode v) ≡ accepted v
 unfolding check idents
 encoding_accepted v counted idents16 sound =
     let s = encode v in
@@ -182,26 +180,28 @@ booked_files_differ s s' v v' e e' k w r by_width by-rate same =
     width_no_rate w r (sym by_width ∙ ap (λ (x : View). (demand_at x.demands k).asked) one ∙ by-rate)
 
 -- what was read is seen as it was read
-pub read_seen : (s : List ℕ) (v : View) → Bytes s → read_file s ≡ accepted v → view (pack_reading (read_file s)).request ≡ v
-unfolding pack_reading
+pub read_seen : (s : List ℕ) (v : View) → Bytes s → read_file s ≡ accepted v → view (pack v) ≡ v
 read_seen s v bytes e =
     let parts = accepted_encodes s v bytes e in
-    ap (λ (r : FileReading). view (pack_reading r).request) e ∙ view_repacked v (sound_file v parts.counted parts.sound).0
+    view_repacked v (sound_file v parts.counted parts.sound).0
 
 -- what was read and is written again is the same bytes, at the front of the buffer
-pub read_then_written : (s : List ℕ) (v : View) (out : List ℕ) → Bytes s → read_file s ≡ accepted v → length s ≤ length out →
-    (written (view (pack_reading (read_file s)).request) out ≡ Wrote (length s)) ×
-    (out_after (view (pack_reading (read_file s)).request) out ≡ s ++ drop (length s) out)
-read_then_written s v out bytes e room =
+pub read_then_written : (s : List ℕ) (request : Request) (v : View) (out : List ℕ) → Bytes s → read_file s ≡ accepted v → pack_reading (read_file s) ≡ Ok request →
+    length s ≤ length out →
+    (written (view request) out ≡ Ok (length s)) × (out_after (view request) out ≡ s ++ drop (length s) out)
+unfolding pack_reading
+read_then_written s request v out bytes e read room =
     let parts = accepted_encodes s v bytes e in
     let size : length s ≡ length (encode v) = ap length parts.encoded in
-    rw (read_seen s v bytes e) (
-      wrote_answer v out parts.sound (omega arith) ∙ ap Wrote (sym size),
+    let packed : Ok (pack v) ≡ Ok request = sym (ap pack_reading e) ∙ read in
+    let seen : view request ≡ v = let same : pack v ≡ request = cc in sym (ap view same) ∙ read_seen s v bytes e in
+    rw seen (
+      wrote_answer v out parts.sound (omega arith) ∙ ap Ok (sym size),
       wrote_front v out parts.sound (omega arith) ∙ ap (λ (file : List ℕ). file ++ drop (length file) out) (sym parts.encoded),
     )
 
 -- a sound request that is written and read again is the same request
-pub written_then_read : (r : Request) (out : List ℕ) (bytes : ℕ) → Whole r → Idents16 (view r) → written (view r) out ≡ Wrote bytes →
+pub written_then_read : (r : Request) (out : List ℕ) (bytes : ℕ) → Whole r → Idents16 (view r) → written (view r) out ≡ Ok bytes →
     read_file (take bytes (out_after (view r) out)) ≡ accepted (view r)
 written_then_read r out bytes whole idents16 wrote =
     let v = view r in
@@ -211,12 +211,12 @@ written_then_read r out bytes whole idents16 wrote =
     ap read_file front ∙ encoding_accepted v (whole_counted r whole) idents16 says.0
 
 -- two answers of writing a request are equal, whatever stands behind its counts, and so are the buffers
-pub same_writing : (q q' : Request) (out : List ℕ) (r r' : Written) (after after' : List ℕ) → view q ≡ view q' →
+pub same_writing : (q q' : Request) (out : List ℕ) (r r' : Result ℕ Refusal) (after after' : List ℕ) → view q ≡ view q' →
     r ≡ written (view q) out → r' ≡ written (view q') out → after ≡ out_after (view q) out → after' ≡ out_after (view q') out → (r ≡ r') × (after ≡ after')
 same_writing q q' out r r' after after' same e e' f f' =
     (e ∙ ap (λ (v : View). written v out) same ∙ sym e', f ∙ ap (λ (v : View). out_after v out) same ∙ sym f')
 
 -- a request that is not written leaves the buffer as it was
-pub write_refused_keeps : (v : View) (out : List ℕ) (why : Refusal) → written v out ≡ Unwritten why → out_after v out ≡ out
+pub write_refused_keeps : (v : View) (out : List ℕ) (why : Refusal) → written v out ≡ Err why → out_after v out ≡ out
 unfolding out_after filled
-write_refused_keeps v out why e = ap (λ (x : Written). filled x (encode v) out) e
+write_refused_keeps v out why e = ap (λ (x : Result ℕ Refusal). filled x (encode v) out) e

@@ -1,13 +1,13 @@
 -- Writing a request as a file: the answer, and what the buffer holds afterwards.
-use Rattle.std.specs.Prelude.{ℕ, List, length}
-use Rattle.request.specs.declared.Written.{Written}
+use Rattle.refusal.specs.declared.Refusal.{Refusal}
+use Rattle.std.specs.Prelude.{ℕ, List, length, Result}
 use Rattle.request.specs.View.{View}
 use Rattle.request.specs.Check.{check}
 use Rattle.request.specs.Encoding.{encode}
 use Rattle.lent.specs.Lent.{write_reply, filled}
 
 -- the answer for a request and a buffer
-unfoldable pub written : View → List ℕ → Written
+unfoldable pub written : View → List ℕ → Result ℕ Refusal
 unfolding check encode write_reply
 written v out = write_reply (check v) (length (encode v)) (length out)
 

@@ -1,6 +1,6 @@
 -- Bytes stored one after the other, up to the fields of a request.
 use Rattle.std.specs.Prelude.{ℕ, suc, ◌+◌, ◌*◌, ◌/◌, ◌%◌, ◌≤◌, ◌<◌, ◌≡◌, refl, take, drop, set}
-use Rattle.std.proofs.Common.{sym, ◌∙◌, arith, add-one, take-append-drop, take-suc, take-take}
+use Rattle.std.proofs.Common.{sym, ◌∙◌, arith, add-one, take-append-drop, take-suc}
 use Rattle.std.proofs.Math.Path.{ap}
 use mathlib.Core.List.{List, [], ◌∷◌, ◌++◌, map, append-nil, map-append}
 use Rattle.std.proofs.Math.ListN.{length, get_or, length-append}
@@ -9,11 +9,12 @@ use Rattle.std.proofs.Math.Seq.{length-take-le}
 use Rattle.grid.specs.declared.Band.{Band}
 use Rattle.request.specs.declared.Link.{Link}
 use Rattle.request.specs.declared.Demand.{Demand}
-use Rattle.request.specs.View.{view_demand, no_link, no_entry}
+use Rattle.request.specs.View.{view_demand, no_link}
 use Rattle.request.specs.Encoding.{two_bytes, bits16, field, band_field, link_field, tag_of, number_asked, demand_field, link_fields, demand_fields}
 use Rattle.request.proofs.EncodingLaws.{demand_bytes, links_bytes, links_follow, demands_follow}
+use Rattle.std.proofs.lemmas.List.{take_more}
 use Rattle.lent.specs.LentLaws.{sets_then}
-use Rattle.writing.specs.inner.Ready.{RoutesFit}
+use Rattle.writing.specs.inner.Ready.{RouteFits}
 
 -- two bytes
 pub number_stored : (out : List ℕ) (at n : ℕ) → set (set out at (n / 256)) (at + 1) (n % 256) ≡ sets out at (two_bytes n)
@@ -66,60 +67,63 @@ route_stored out after route at i more e =
     sets_then out at (take i route) (get_or route i 0 ∷ []) (at + i) (ap (λ (n : ℕ). at + n) (sym taken)) ∙
     ap (sets out at) (sym longer)
 
+-- the field of one more link
+pub links_more : (links : List Link) (k : ℕ) (d : Link) → k < length links →
+    link_fields (take (k + 1) links) ≡ link_fields (take k links) ++ link_field (get_or links k d)
+unfolding link_fields
+links_more links k d more =
+    let l = get_or links k d in
+    ap link_fields (take_more links k d more) ∙ links_follow (take k links) (l ∷ []) ∙
+    ap (λ (s : List ℕ). link_fields (take k links) ++ s) (append-nil (link_field l))
+
 -- the links, one more
 pub links_stored : (out after next : List ℕ) (links : List Link) (k : ℕ) → k < length links → after ≡ sets out 8 (link_fields (take k links)) →
     next ≡ sets after (8 + 5 * k) (link_field (get_or links k no_link)) → next ≡ sets out 8 (link_fields (take (k + 1) links))
-unfolding link_fields
 links_stored out after next links k more e f =
     let l = get_or links k no_link in
     let taken : length (take k links) ≡ k = length-take-le k links (omega arith) in
     let bytes : 8 + 5 * k ≡ 8 + length (link_fields (take k links)) = omega (arith, links_bytes (take k links)) in
-    let longer : take (k + 1) links ≡ take k links ++ (l ∷ []) = rw (add-one k) (take-suc links k no_link more) in
-    let field : link_fields (l ∷ []) ≡ link_field l = append-nil (link_field l) in
     f ∙ ap (λ (o : List ℕ). sets o (8 + 5 * k) (link_field l)) e ∙ sets_then out 8 (link_fields (take k links)) (link_field l) (8 + 5 * k) bytes ∙
-    ap (sets out 8) (ap (λ (s : List ℕ). link_fields (take k links) ++ s) (sym field) ∙ sym (links_follow (take k links) (l ∷ [])) ∙ ap link_fields (sym longer))
+    ap (sets out 8) (sym (links_more links k no_link more))
 
-module _ (demands : List Demand) (count : ℕ) (fit : RoutesFit demands count) (k : ℕ) (more : k < count) where
-  -- one more of an array's demands
-  views_more : map view_demand (take (k + 1) demands) ≡ map view_demand (take k demands) ++ (view_demand (get_or demands k no_entry) ∷ [])
-  views_more =
-      let longer : take (k + 1) demands ≡ take k demands ++ (get_or demands k no_entry ∷ []) = rw (add-one k) (take-suc demands k no_entry (omega (arith, fit.within))) in
-      ap (map view_demand) longer ∙ map-append view_demand (take k demands) (get_or demands k no_entry ∷ [])
-
-  -- its field follows the others
-  fields_more : demand_fields (map view_demand (take (k + 1) demands)) ≡ demand_fields (map view_demand (take k demands)) ++ demand_field (view_demand (get_or demands k no_entry))
+module _ (demands : List Demand) (k : ℕ) (d : Demand) (more : k < length demands) where
+  -- the field of one more demand
+  pub demands_more : demand_fields (map view_demand (take (k + 1) demands)) ≡ demand_fields (map view_demand (take k demands)) ++ demand_field (view_demand (get_or demands k d))
   unfolding demand_fields
-  fields_more =
-      let d = view_demand (get_or demands k no_entry) in
-      ap demand_fields views_more ∙ demands_follow (map view_demand (take k demands)) (d ∷ []) ∙
-      ap (λ (s : List ℕ). demand_fields (map view_demand (take k demands)) ++ s) (append-nil (demand_field d))
+  demands_more =
+      let front = take k demands in
+      let one = get_or demands k d in
+      ap (λ (ds : List Demand). demand_fields (map view_demand ds)) (take_more demands k d more) ∙
+      ap demand_fields (map-append view_demand front (one ∷ [])) ∙ demands_follow (map view_demand front) (view_demand one ∷ []) ∙
+      ap (λ (s : List ℕ). demand_fields (map view_demand front) ++ s) (append-nil (demand_field (view_demand one)))
 
-  -- the field's length
-  pub bytes_more : length (demand_fields (map view_demand (take (k + 1) demands))) ≡ length (demand_fields (map view_demand (take k demands))) + 7 + (get_or demands k no_entry).hops
+  -- how long it is: 7 and its route
+  pub field_more : length (demand_fields (map view_demand (take (k + 1) demands))) ≡ length (demand_fields (map view_demand (take k demands))) + length (demand_field (view_demand (get_or demands k d)))
+  field_more = ap length demands_more ∙ length-append (demand_fields (map view_demand (take k demands))) (demand_field (view_demand (get_or demands k d)))
+
+  pub bytes_more : RouteFits (get_or demands k d) →
+      length (demand_fields (map view_demand (take (k + 1) demands))) ≡ length (demand_fields (map view_demand (take k demands))) + 7 + (get_or demands k d).hops
   unfolding view_demand
-  bytes_more =
-      let entry = get_or demands k no_entry in
-      let route : length (take entry.hops entry.links) ≡ entry.hops = length-take-le entry.hops entry.links (omega (arith, fit.each_short k more, fit.each_whole k more)) in
-      ap length fields_more ∙ length-append (demand_fields (map view_demand (take k demands))) (demand_field (view_demand entry)) ∙
-      (let bytes = demand_bytes (view_demand entry) in omega arith)
+  bytes_more fits =
+      let one = get_or demands k d in
+      let route : length (take one.hops one.links) ≡ one.hops = length-take-le one.hops one.links (omega (arith, fits.short, fits.whole)) in
+      field_more ∙ (let bytes = demand_bytes (view_demand one) in omega arith)
 
   -- the demands, one more
   pub demands_stored : (out after next : List ℕ) (start at : ℕ) → at ≡ start + length (demand_fields (map view_demand (take k demands))) →
-      after ≡ sets out start (demand_fields (map view_demand (take k demands))) → next ≡ sets after at (demand_field (view_demand (get_or demands k no_entry))) →
+      after ≡ sets out start (demand_fields (map view_demand (take k demands))) → next ≡ sets after at (demand_field (view_demand (get_or demands k d))) →
       next ≡ sets out start (demand_fields (map view_demand (take (k + 1) demands)))
   demands_stored out after next start at here e f =
-      let d = view_demand (get_or demands k no_entry) in
-      f ∙ ap (λ (o : List ℕ). sets o at (demand_field d)) e ∙
-      sets_then out start (demand_fields (map view_demand (take k demands))) (demand_field d) at here ∙ ap (sets out start) (sym fields_more)
+      let field = demand_field (view_demand (get_or demands k d)) in
+      f ∙ ap (λ (o : List ℕ). sets o at field) e ∙
+      sets_then out start (demand_fields (map view_demand (take k demands))) field at here ∙ ap (sets out start) (sym demands_more)
 
-  -- the first fields of an array's demands are no longer than all of them
-  pub bytes_within : length (demand_fields (map view_demand (take (k + 1) demands))) ≤ length (demand_fields (map view_demand (take count demands)))
+  -- the first fields are no longer than all of them
+  pub bytes_within : length (demand_fields (map view_demand (take (k + 1) demands))) ≤ length (demand_fields (map view_demand demands))
   bytes_within =
       let front = take (k + 1) demands in
-      let rest = drop (k + 1) (take count demands) in
-      let parts : take count demands ≡ front ++ rest
-      = sym (ap (λ (ds : List Demand). ds ++ rest) (sym (take-take (k + 1) count demands (omega arith))) ∙ take-append-drop (k + 1) (take count demands)) in
-      let fields : demand_fields (map view_demand (take count demands)) ≡ demand_fields (map view_demand front) ++ demand_fields (map view_demand rest)
-      = ap (λ (ds : List Demand). demand_fields (map view_demand ds)) parts ∙ ap demand_fields (map-append view_demand front rest) ∙
-      demands_follow (map view_demand front) (map view_demand rest) in
+      let rest = drop (k + 1) demands in
+      let fields : demand_fields (map view_demand demands) ≡ demand_fields (map view_demand front) ++ demand_fields (map view_demand rest)
+      = ap (λ (ds : List Demand). demand_fields (map view_demand ds)) (sym (take-append-drop (k + 1) demands)) ∙
+      ap demand_fields (map-append view_demand front rest) ∙ demands_follow (map view_demand front) (map view_demand rest) in
       omega (arith, ap length fields ∙ length-append (demand_fields (map view_demand front)) (demand_fields (map view_demand rest)))

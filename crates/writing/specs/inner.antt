@@ -1,2 +1,3 @@
+pub mod Puts
 -- Definitions that no promise speaks of: what loops keep, and what proofs pass on.
 pub mod Ready

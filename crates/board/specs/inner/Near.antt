@@ -1,8 +1,6 @@
 -- What stands, as the scan sees it: blocks of slots, each with its guard.
-use Rattle.std.specs.Prelude.{ℕ, ◌+◌, ◌-◌, ◌≤◌, ◌<◌, Bool, true, false, cond, ◌&&◌, List, ◌≡◌, ltb, get_or}
+use Rattle.std.specs.Prelude.{ℕ, ◌+◌, ◌-◌, ◌≤◌, ◌<◌, Bool, true, false, cond, ◌&&◌, List, ◌≡◌, ltb, get_or, Option, Some, None}
 use Rattle.theory.specs.Problem.{Problem, apart}
-use Rattle.board.specs.declared.Spot.{Spot}
-use Rattle.board.specs.declared.Spot.TheVariants.{At, Nowhere}
 
 -- the problem of placing number 200 beside blocks: block j ends, its guard included, at past j, which is 0 where it is not in the way;
 -- number 200 spans so many slots, its guard included
@@ -29,5 +27,5 @@ unfoldable pub ClearTo : List ℕ → List ℕ → ℕ → ℕ → ℕ → Type 
 ClearTo past starts span s j = (k : ℕ) → k < j → apart (near_problem past starts span) k (get_or starts k 0) 200 s ≡ true
 
 -- what a scan that stops at a limit has found: a start below the limit
-unfoldable pub spot_below : ℕ → ℕ → Spot
-spot_below start above = cond (ltb start above) (At start) Nowhere
+unfoldable pub spot_below : ℕ → ℕ → Option ℕ
+spot_below start above = cond (ltb start above) (Some start) None

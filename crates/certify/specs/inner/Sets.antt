@@ -1,10 +1,10 @@
 -- The test of a certificate, and what it tells, of any problem; and pairs and threes as the loops go through them.
-use Rattle.std.specs.Prelude.{ℕ, ◌+◌, ◌-◌, ◌*◌, ◌≤◌, Bool, ◌&&◌, ◌||◌, List, ◌≡◌, ltb, get_or}
+use Rattle.refusal.specs.declared.Refusal.{Refusal}
+use Rattle.std.specs.Prelude.{ℕ, ◌+◌, ◌-◌, ◌*◌, ◌≤◌, Bool, ◌&&◌, ◌||◌, List, ◌≡◌, ltb, get_or, Result}
 use Rattle.refusal.specs.declared.Refusal.TheVariants.{NoCertificate}
 use Rattle.theory.specs.Problem.{Problem}
 use Rattle.theory.specs.Orders.{count_up, listing}
 use Rattle.theory.specs.Certificate.{weighed, certified_end}
-use Rattle.request.specs.declared.Checked.{Checked}
 use Rattle.request.specs.Check.{then, must}
 use Rattle.meeting.specs.Compact.{share_bit}
 use Rattle.certify.specs.declared.Certified.{Certified}
@@ -28,7 +28,7 @@ third_heavy P weights a K i j k =
     weighs_beside P weights a K i k && (weighs_beside P weights a K j k && ltb a (weight_of weights i + weight_of weights j + weight_of weights k))
 
 -- the test of a certificate for K demands
-unfoldable pub checked_in : Problem → ℕ → List ℕ → ℕ → Checked
+unfoldable pub checked_in : Problem → ℕ → List ℕ → ℕ → Result Unit Refusal
 unfolding then must right_shape check_weights check_sets
 checked_in P K weights a = then (must (right_shape K weights a) (NoCertificate K)) (then (check_weights a 0 weights) (check_sets P weights a K 0 K))
 
@@ -38,7 +38,7 @@ unfolding certified_end weighed weight_of listing
 low_in P G K weights a = certified_end G a (weighed P G (weight_of weights) (listing K))
 
 -- what it tells of a plan that ends here
-unfoldable pub told_in : Problem → ℕ → ℕ → List ℕ → ℕ → ℕ → Certified
+unfoldable pub told_in : Problem → ℕ → ℕ → List ℕ → ℕ → ℕ → Result Certified Refusal
 unfolding told_after checked_in end_told low_in
 told_in P G K weights a end = told_after (checked_in P K weights a) (end_told (low_in P G K weights a) end)
 

@@ -1,27 +1,21 @@
-use mathlib.Core.Path.{refl}
-use native.Mathlib.Omega.{arith}
-use Rattle.lent.specs.LentLaws.{rooms_done, rooms_pass, rooms_short}
+use Rattle.std.proofs.Common.{ℕ, ltb, rules, tests}
+use Rattle.std.proofs.lemmas.Iterator.{YieldsList-from_slice}
+use Rattle.std.proofs.lemmas.Iterator.Search.{any_from_yields_List}
+use Rattle.lent.specs.LentLaws.{rooms_any}
 use Rattle.lent.proofs.check_rooms.Goals as goal
 
-pub loop-i-init : goal.loop-i-init
-loop-i-init c = (omega arith, refl)
-
-pub returns-then-rooms-i : goal.returns-then-rooms-i
-returns-then-rooms-i c =
-    let a = c.args in
-    rooms_short a.need a.rooms.now c.loop-i.i c.loop-i-test.true c.loop-i.invariant.1 c.if-rooms-i.true
-
-pub loop-i-smaller : goal.loop-i-smaller
-loop-i-smaller c = omega arith
-
-pub loop-i-preserved : goal.loop-i-preserved
-loop-i-preserved c =
-    let a = c.args in (
-      omega arith,
-      rooms_pass a.need a.rooms.now c.loop-i.i c.loop-i-test.true c.loop-i.invariant.1 c.if-rooms-i.false,
-    )
+pub returns-then-any : goal.returns-then-any
+returns-then-any c =
+    let need = c.args.need in
+    let rooms = c.args.rooms.now in
+    let any =
+    any_from_yields_List (λ (room : ℕ). ltb room need) _ _ _ c.any.ensures.ran (YieldsList-from_slice rooms cc) (λ x b q k. search (rules, tests)) in
+    rw (rooms_any need rooms, ← any, c.if-any.true)
 
 pub returns : goal.returns
 returns c =
-    let a = c.args in
-    rooms_done a.need a.rooms.now c.loop-i.i (omega arith) c.loop-i.invariant.1
+    let need = c.args.need in
+    let rooms = c.args.rooms.now in
+    let any =
+    any_from_yields_List (λ (room : ℕ). ltb room need) _ _ _ c.any.ensures.ran (YieldsList-from_slice rooms cc) (λ x b q k. search (rules, tests)) in
+    rw (rooms_any need rooms, ← any, c.if-any.false)

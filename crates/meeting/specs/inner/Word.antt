@@ -1,7 +1,7 @@
 -- A route as one word: a bit for each link number below 64 that stands in it.
-use Rattle.std.specs.Prelude.{ℕ, zero, suc, ◌/◌, ◌%◌, ◌^◌, ◌<◌, Bool, not, List, ◌≡◌, eqb, leb}
+use Rattle.std.specs.Prelude.{ℕ, zero, suc, ◌/◌, ◌%◌, ◌^◌, ◌<◌, Bool, List, ◌≡◌, eqb, ltb}
+use Rattle.std.specs.List.{list_all}
 use Rattle.request.specs.Check.{has}
-use Rattle.meeting.specs.inner.Meeting.{some_link}
 
 -- the bit of a word at a place, the lowest at 0
 unfoldable pub bit_of : ℕ → ℕ → Bool
@@ -13,7 +13,6 @@ pub record WordOf (list : List ℕ) (word : ℕ) : Type 0 where
   pub short : word < 2 ^ 64
   pub bits : (x : ℕ) → x < 64 → bit_of word x ≡ has x list
 
--- a word has a bit for each number of the list: none is 64 or more
+-- a word has a bit for each number of the list: all are below 64
 unfoldable pub all_low : List ℕ → Bool
-unfolding some_link
-all_low list = not (some_link (leb 64) list)
+all_low list = list_all (λ (x : ℕ). ltb x 64) list

@@ -1,5 +1,5 @@
 -- First fit as it goes on: what is asked of it, and how far it has come.
-use Rattle.std.specs.Prelude.{ℕ, ◌-◌, ◌≤◌, ◌<◌, List, [], ◌≡◌, length, get_or, take, drop}
+use Rattle.std.specs.Prelude.{ℕ, ◌-◌, ◌≤◌, ◌<◌, List, [], ◌≡◌, length, get_or, take, drop, Result, Ok, Err}
 use Rattle.refusal.specs.declared.Refusal.TheVariants.{NoStart}
 use Rattle.theory.specs.Blocker.{blocker_at, blocker_in}
 use Rattle.theory.specs.Earlier.{NoRepeats}
@@ -7,8 +7,8 @@ use Rattle.theory.specs.Problem.{Problem, Row, fill, top, start_in, Fitted, plac
 use Rattle.board.specs.inner.Standing.{Standing}
 use Rattle.meeting.specs.declared.Compact.{Compact}
 use Rattle.meeting.specs.inner.Small.{Small, problem_in}
-use Rattle.placing.specs.declared.PlacedReply.{PlacedReply}
-use Rattle.placing.specs.declared.PlacedReply.TheVariants as placed-reply
+use Rattle.placing.specs.declared.Unplaced.{Unplaced}
+use Rattle.placing.specs.declared.Unplaced.TheVariants as unplaced
 use Rattle.placing.specs.FirstFit.{blocker_entry}
 
 -- a small request with an order of some of its demands, none twice
@@ -17,24 +17,16 @@ pub record OrderAsked (c : Compact) (order : List ℕ) : Type 0 where
   pub positions : (m : ℕ) → m < length order → get_or order m 0 < c.count
   pub once : NoRepeats order
 
--- an order to place from a clean slate
-pub record PlaceAsked (c : Compact) (order at by : List ℕ) : Type 0 where
-  pub asked : OrderAsked c order
-  pub starts_full : length at ≡ 200
-  pub starts_clean : (j : ℕ) → j < 200 → get_or at j 0 ≡ 0
-  pub blockers_full : length by ≡ 200
-  pub blockers_clean : (j : ℕ) → j < 200 → get_or by j 0 ≡ 65535
-
 -- first fit of a small request's problem along an order, inside the band
 unfoldable pub fitted_in : Compact → List ℕ → Fitted
 unfolding problem_in first_fit
 fitted_in c order = first_fit (problem_in c) c.slots [] order
 
 -- the reply to a fitting
-unfoldable pub reply_in : Compact → Fitted → PlacedReply
+unfoldable pub reply_in : Compact → Fitted → Result ℕ Unplaced
 unfolding problem_in blocker_entry blocker_at
-reply_in c (placed rows) = placed-reply.Placed (top (problem_in c) rows)
-reply_in c (refused rows i) = placed-reply.Blocked (NoStart i) (blocker_entry (blocker_at (problem_in c) rows i (c.slots - (problem_in c).width i)))
+reply_in c (placed rows) = Ok (top (problem_in c) rows)
+reply_in c (refused rows i) = Err (unplaced.Blocked (NoStart i) (blocker_entry (blocker_at (problem_in c) rows i (c.slots - (problem_in c).width i))))
 
 -- arrays of 200 entries that hold, if all are placed, the starts and the blockers by listing position
 pub record PlanKept (P : Problem) (out : Fitted) (at by : List ℕ) : Type 0 where

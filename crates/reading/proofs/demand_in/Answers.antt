@@ -15,11 +15,6 @@ number_in-requires c =
     let holds = field_holds c.args.file.now c.args.at (demand_tag c.args.file.now c.args.at) 5 36 c.requires in
     omega arith
 
-pub overflow_cast-hops : goal.overflow_cast-hops
-overflow_cast-hops c =
-    let holds = field_holds c.args.file.now c.args.at (demand_tag c.args.file.now c.args.at) 5 36 c.requires in
-    omega arith
-
 pub overflow_sub-hops : goal.overflow_sub-hops
 overflow_sub-hops c =
     let holds = field_holds c.args.file.now c.args.at (demand_tag c.args.file.now c.args.at) 5 36 c.requires in
@@ -60,4 +55,4 @@ number_in-requires-3 c =
 
 pub returns : goal.returns
 unfolding pack_demand demand_in body_length
-returns c = rw (c.asked_in.ensures, c.number_in-3.ensures, c.number_in-2.ensures, c.route_in-links.ensures, c.number_in.ensures)
+returns c = rw (c.asked_in.ensures, c.number_in-3.ensures, c.number_in-2.ensures, c.route_in-links.ensures, c.from-hops.ensures, c.number_in.ensures)

@@ -1,8 +1,7 @@
 -- What was read, and the bytes it was read from.
-use Rattle.std.specs.Prelude.{ℕ, ◌≤◌, ◌<◌, List, ◌++◌, ◌≡◌, length, drop}
+use Rattle.std.specs.Prelude.{ℕ, ◌≤◌, ◌<◌, List, ◌++◌, ◌≡◌, length, drop, Ok}
 use Rattle.grid.specs.declared.Band.{Band}
 use Rattle.request.specs.declared.Link.{Link}
-use Rattle.request.specs.declared.Checked.TheVariants.{Sound}
 use Rattle.request.specs.View.{DemandView, View, demand_at, idents}
 use Rattle.request.specs.Check.{check_links, check_demands}
 use Rattle.request.specs.Encoding.{link_fields, demand_fields}
@@ -15,7 +14,7 @@ pub record LinksEncoded (s : List ℕ) (at : ℕ) (before links : List Link) (en
   pub within : end ≤ length s
   pub some : 0 < length links
   pub few : length links ≤ 64
-  pub sound : (k : ℕ) → check_links k more ≡ Sound
+  pub sound : (k : ℕ) → check_links k more ≡ Ok tt
 
 -- what was read as demands after others, up to the end of the file
 pub record DemandsEncoded (S : ℕ) (links : List Link) (s : List ℕ) (at : ℕ) (before demands : List DemandView) : Type 0 where
@@ -23,7 +22,7 @@ pub record DemandsEncoded (S : ℕ) (links : List Link) (s : List ℕ) (at : ℕ
   pub all : demands ≡ before ++ more
   pub encoded : drop at s ≡ demand_fields more
   pub few : length demands ≤ 200
-  pub sound : (k : ℕ) → check_demands S links (idents before) k more ≡ Sound
+  pub sound : (k : ℕ) → check_demands S links (idents before) k more ≡ Ok tt
   pub counted : (j : ℕ) → j < length more → length (demand_at more j).route ≡ (demand_at more j).hops
   pub named : (j : ℕ) → j < length more → (demand_at more j).ident < 65536
 

@@ -1,22 +1,15 @@
 // 04: raw. The bound of a request.
-use crate::raw::raw_at;
+use crate::body::{Body, Malformed};
 use crate::say;
-use meeting::BoundReply;
+use crate::say::Refused;
 use std::io::Stdout;
 
-pub(crate) fn answer(stdout: Stdout, body: &[u8]) -> bool {
-    let raw = raw_at(body, 0);
-    if raw.end != body.len() {
-        return false;
+pub(crate) fn answer(stdout: Stdout, mut body: Body<'_>) -> Result<(), Malformed> {
+    let request = body.request()?;
+    body.end()?;
+    match meeting::bound(request) {
+        Ok(bound) => say::line(stdout, format_args!("bound {bound}")),
+        Err(why) => say::line(stdout, Refused(why)),
     }
-    let reply = meeting::bound(raw.request);
-    match reply {
-        BoundReply::Bound(bound) => {
-            say::words(stdout, b"bound");
-            say::number(stdout, bound as u64);
-        }
-        BoundReply::Refused(why) => say::refusal(stdout, why),
-    }
-    say::end(stdout);
-    true
+    Ok(())
 }

@@ -1,20 +1,15 @@
 // 02: raw. Whether a request is sound.
-use crate::raw::raw_at;
+use crate::body::{Body, Malformed};
 use crate::say;
-use request::Checked;
+use crate::say::Refused;
 use std::io::Stdout;
 
-pub(crate) fn answer(stdout: Stdout, body: &[u8]) -> bool {
-    let raw = raw_at(body, 0);
-    if raw.end != body.len() {
-        return false;
+pub(crate) fn answer(stdout: Stdout, mut body: Body<'_>) -> Result<(), Malformed> {
+    let request = body.request()?;
+    body.end()?;
+    match request::check_request(request) {
+        Ok(()) => say::line(stdout, "sound"),
+        Err(why) => say::line(stdout, Refused(why)),
     }
-    let request = raw.request;
-    let checked = request::check_request(request);
-    match checked {
-        Checked::Sound => say::words(stdout, b"sound"),
-        Checked::Refused(why) => say::refusal(stdout, why),
-    }
-    say::end(stdout);
-    true
+    Ok(())
 }

@@ -1,65 +1,30 @@
 // 05: room, room, n (2), n entries (2 each), raw. Places the demands in an order.
-use crate::buffers::{MOST_ROOM, held_entries, lent_entries, listed_entries};
-use crate::numbers::{next, read_entries, two_at};
-use crate::raw::raw_at;
+use crate::body::{Body, Malformed};
 use crate::say;
-use placing::PlacedReply;
-use request::Request;
+use crate::say::{List, Refused};
+use placing::Unplaced;
 use std::io::Stdout;
 
-pub(crate) fn answer(stdout: Stdout, body: &[u8]) -> bool {
-    let starts_room = two_at(body, 0) as usize;
-    let blockers_room = two_at(body, 2) as usize;
-    let count = two_at(body, 4) as usize;
-    let raw = raw_at(body, next(next(6, count), count));
-    if raw.end != body.len() {
-        return false;
-    }
-    if starts_room > MOST_ROOM {
-        return false;
-    }
-    if blockers_room > MOST_ROOM {
-        return false;
-    }
-    let mut order = listed_entries();
-    let mut starts = lent_entries();
-    let mut blockers = lent_entries();
-    let count = held_entries(count, &order);
-    let starts_room = held_entries(starts_room, &starts);
-    let blockers_room = held_entries(blockers_room, &blockers);
-    place(
-        stdout,
-        body,
-        raw.request,
-        &mut order[..count],
-        &mut starts[..starts_room],
-        &mut blockers[..blockers_room],
-    );
-    true
-}
-
-fn place(
-    stdout: Stdout,
-    body: &[u8],
-    request: Request,
-    order: &mut [u16],
-    starts: &mut [u16],
-    blockers: &mut [u16],
-) {
-    read_entries(body, 6, order);
-    let reply = placing::first_fit(request, order, starts, blockers);
-    match reply {
-        PlacedReply::Placed(end) => {
-            say::words(stdout, b"placed");
-            say::number(stdout, end as u64);
-        }
-        PlacedReply::Refused(why) => say::refusal(stdout, why),
-        PlacedReply::Blocked(why, blocker) => {
-            say::refusal(stdout, why);
-            say::number(stdout, blocker as u64);
+pub(crate) fn answer(stdout: Stdout, mut body: Body<'_>) -> Result<(), Malformed> {
+    let starts_room = body.room()?;
+    let blockers_room = body.room()?;
+    let count = usize::from(body.two()?);
+    let mut order = [0; 65535];
+    let order = &mut order[..count];
+    body.fill(order)?;
+    let request = body.request()?;
+    body.end()?;
+    let mut starts = [0xAAAA; 8192];
+    let starts = &mut starts[..starts_room];
+    let mut blockers = [0xAAAA; 8192];
+    let blockers = &mut blockers[..blockers_room];
+    match placing::first_fit(request, order, starts, blockers) {
+        Ok(end) => say::part(stdout, format_args!("placed {end}")),
+        Err(Unplaced::Refused(why)) => say::part(stdout, Refused(why)),
+        Err(Unplaced::Blocked(why, blocker)) => {
+            say::part(stdout, format_args!("{} {blocker}", Refused(why)))
         }
     }
-    say::entries(stdout, starts);
-    say::entries(stdout, blockers);
-    say::end(stdout);
+    say::line(stdout, format_args!(" {} {}", List(starts), List(blockers)));
+    Ok(())
 }

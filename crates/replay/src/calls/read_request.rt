@@ -1,29 +1,27 @@
 // 01: the file of a request. Answers the bytes that the request in it is written as.
-use crate::buffers::{held_bytes, lent_bytes};
+use crate::body::{Body, Malformed};
 use crate::say;
-use request::{Checked, Request, Written};
+use crate::say::{Hex, Refused};
+use request::Request;
 use std::io::Stdout;
 
-pub(crate) fn answer(stdout: Stdout, body: &[u8]) -> bool {
-    let reading = reading::read_request(body);
-    let verdict = reading.verdict;
-    match verdict {
-        Checked::Sound => show(stdout, reading.request),
-        Checked::Refused(why) => say::refusal(stdout, why),
+pub(crate) fn answer(stdout: Stdout, body: Body<'_>) -> Result<(), Malformed> {
+    match reading::read_request(body.rest()) {
+        Ok(request) => show(stdout, request),
+        Err(why) => say::line(stdout, Refused(why)),
     }
-    say::end(stdout);
-    true
+    Ok(())
 }
 
 fn show(stdout: Stdout, request: Request) {
-    let mut out = lent_bytes();
-    let written = writing::write_request(request, &mut out);
-    match written {
-        Written::Wrote(count) => {
-            let count = held_bytes(count, &out);
-            say::words(stdout, b"read");
-            say::bytes(stdout, &out[..count]);
+    let mut out = [0xAA; 8192];
+    match writing::write_request(request, &mut out) {
+        Ok(count) => {
+            say::line(
+                stdout,
+                format_args!("read {}", Hex(&out[..count.min(8192)])),
+            )
         }
-        Written::Refused(why) => say::refusal(stdout, why),
+        Err(why) => say::line(stdout, Refused(why)),
     }
 }

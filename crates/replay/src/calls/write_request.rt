@@ -1,29 +1,16 @@
 // 03: room, raw. Writes the file of a request.
-use crate::buffers::{MOST_ROOM, held_bytes, lent_bytes};
-use crate::numbers::two_at;
-use crate::raw::raw_at;
+use crate::body::{Body, Malformed};
 use crate::say;
-use request::Request;
+use crate::say::Hex;
 use std::io::Stdout;
 
-pub(crate) fn answer(stdout: Stdout, body: &[u8]) -> bool {
-    let room = two_at(body, 0) as usize;
-    let raw = raw_at(body, 2);
-    if raw.end != body.len() {
-        return false;
-    }
-    if room > MOST_ROOM {
-        return false;
-    }
-    let mut out = lent_bytes();
-    let room = held_bytes(room, &out);
-    write(stdout, raw.request, &mut out[..room]);
-    true
-}
-
-fn write(stdout: Stdout, request: Request, out: &mut [u8]) {
-    let written = writing::write_request(request, out);
-    say::written(stdout, written);
-    say::bytes(stdout, out);
-    say::end(stdout);
+pub(crate) fn answer(stdout: Stdout, mut body: Body<'_>) -> Result<(), Malformed> {
+    let room = body.room()?;
+    let request = body.request()?;
+    body.end()?;
+    let mut out = [0xAA; 8192];
+    let out = &mut out[..room];
+    say::written(stdout, writing::write_request(request, out));
+    say::line(stdout, format_args!(" {}", Hex(out)));
+    Ok(())
 }

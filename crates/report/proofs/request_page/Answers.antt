@@ -8,18 +8,18 @@ use Rattle.report.proofs.request_page.Goals as goal
 
 pub answered_page-requires : goal.answered_page-requires
 unfolding view rooms_of
-answered_page-requires c = answered_few (view c.args.request) 1000000 (20 ∷ 20 ∷ 20 ∷ []) c.in-Answered.answer (sym c.search-reply.ensures.answer ∙ c.in-Answered.is)
+answered_page-requires c = answered_few (view c.args.request) 1000000 (20 ∷ 20 ∷ 20 ∷ []) c.in-Ok.answer (sym c.search-reply.ensures.answer ∙ c.in-Ok.is)
 
-pub returns-in-Answered : goal.returns-in-Answered
+pub returns-in-Ok : goal.returns-in-Ok
 unfolding twenty_zeros rooms_of
-returns-in-Answered c =
+returns-in-Ok c =
     record {
-      value = request_answered c.args.request _ c.in-Answered.answer (sym c.search-reply.ensures.answer ∙ c.in-Answered.is)
+      value = request_answered c.args.request _ c.in-Ok.answer (sym c.search-reply.ensures.answer ∙ c.in-Ok.is)
           c.search-reply.ensures.starts
           c.answered_page.ensures.value;
       len_bound = c.answered_page.ensures.len_bound;
     }
 
-pub returns-in-Refused : goal.returns-in-Refused
+pub returns-in-Err : goal.returns-in-Err
 unfolding rooms_of
-returns-in-Refused c = record { value = request_refused_lem c.args.request c.in-Refused.why (sym c.search-reply.ensures.answer ∙ c.in-Refused.is) c.refused_page.ensures.value; len_bound = c.refused_page.ensures.len_bound }
+returns-in-Err c = record { value = request_refused_lem c.args.request c.in-Err.why (sym c.search-reply.ensures.answer ∙ c.in-Err.is) c.refused_page.ensures.value; len_bound = c.refused_page.ensures.len_bound }

@@ -1,12 +1,12 @@
 -- How far the test of a request's demands has come.
-use Rattle.std.specs.Prelude.{ℕ, ◌≤◌, List, ◌≡◌, length, take, drop}
-use Rattle.request.specs.declared.Checked.{Checked}
+use Rattle.refusal.specs.declared.Refusal.{Refusal}
+use Rattle.std.specs.Prelude.{ℕ, ◌≤◌, List, ◌≡◌, length, take, drop, Result}
 use Rattle.request.specs.declared.Request.{Request}
 use Rattle.request.specs.View.{View, view}
 use Rattle.request.specs.Check.{then, check_demands, check_demand_count, check}
 
 -- the demands from the k-th on, after demands of these idents, then their number
-unfoldable pub check_from : View → List ℕ → ℕ → Checked
+unfoldable pub check_from : View → List ℕ → ℕ → Result Unit Refusal
 unfolding then check_demands check_demand_count
 check_from v earlier k =
     then (check_demands v.band.slots v.links earlier k (drop k v.demands)) (check_demand_count v.demand_count)

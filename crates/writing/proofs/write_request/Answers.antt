@@ -1,96 +1,76 @@
-use Prim.Native.Nat.{ℕ, ◌+◌, ◌*◌, ◌≤◌}
-use mathlib.Core.Path.{◌≡◌, sym, ap, ◌∙◌}
-use native.Mathlib.Omega.{arith}
-use lib.ListN.{length, take}
-use Rattle.request.specs.declared.Checked.TheVariants.{Sound}
-use Rattle.request.specs.declared.Written.TheVariants.{Wrote}
+use Rattle.std.specs.Prelude.{Ok}
+use Rattle.std.proofs.Common.{ℕ, ◌≡◌, ◌≤◌, length, take, sym, ap, ◌∙◌, arith, rules}
 use Rattle.request.specs.View.{view}
-use Rattle.request.specs.Check.{check}
 use Rattle.request.specs.Encoding.{encode}
 use Rattle.request.proofs.Arrays.{whole}
+use Rattle.request.proofs.EncodingLaws.{band_bytes, links_bytes}
 use Rattle.lent.specs.Lent.{check_room}
 use Rattle.lent.specs.LentLaws.{room_held}
-use Rattle.writing.specs.inner.Ready.{Ready}
-use Rattle.writing.specs.OutLaws.{ready, unsound_answer, short_answer, wrote_answer, all_stored}
+use Rattle.writing.specs.OutLaws.{ready, unsound_answer, short_answer, wrote_answer, file_stored}
 use Rattle.writing.specs.RoundTripLaws.{write_refused_keeps}
+use Rattle.writing.specs.PutsLaws.{puts_then}
 use Rattle.writing.proofs.write_request.Goals as goal
 
-pub returns-in-Refused : goal.returns-in-Refused
-returns-in-Refused c =
+pub returns-in_err-check_request : goal.returns-in_err-check_request
+returns-in_err-check_request c =
     let r = c.args.request in
     let out = c.args.out.now in
-    let why = c.in-Refused.why in
-    let refused = unsound_answer (view r) out why (sym c.check_request-answer.ensures ∙ c.in-Refused.is) in record { value = sym refused; out_after = sym (write_refused_keeps (view r) out why refused) }
+    let refused = unsound_answer (view r) out _ (sym c.check_request.ensures ∙ c.in_err-check_request.was) in record { value = search (rules, refused); out_after = sym (write_refused_keeps (view r) out _ refused) }
+
+pub shared_ref_as_front-links : goal.shared_ref_as_front-links
+shared_ref_as_front-links c =
+    let is_ready = ready c.args.request (whole c.args.request _ c.well_formed.0) (sym c.check_request.ensures ∙ c.in_ok-check_request.was) in
+    is_ready.few_links
+
+pub shared_ref_as_front-demands : goal.shared_ref_as_front-demands
+shared_ref_as_front-demands c =
+    let is_ready = ready c.args.request (whole c.args.request _ c.well_formed.0) (sym c.check_request.ensures ∙ c.in_ok-check_request.was) in
+    is_ready.few_demands
 
 pub file_length-needed-requires : goal.file_length-needed-requires
 file_length-needed-requires c =
-    let sound_is : check (view c.args.request) ≡ Sound = sym c.check_request-answer.ensures ∙ c.in_default.is in
-    let is_ready : Ready c.args.request = ready c.args.request (whole c.args.request _ c.well_formed.0) sound_is in
-    let ready_now = is_ready in record { link_count_bound = ready_now.few_links; demand_count_bound = ready_now.few_demands; routes_fit = ready_now.routes_fit }
+    let is_ready = ready c.args.request (whole c.args.request _ c.well_formed.0) (sym c.check_request.ensures ∙ c.in_ok-check_request.was) in
+    record { links_bound = omega arith; demands_bound = omega arith }
 
-pub returns-in-Refused-enough : goal.returns-in-Refused-enough
-returns-in-Refused-enough c =
-    let sound_is : check (view c.args.request) ≡ Sound = sym c.check_request-answer.ensures ∙ c.in_default.is in
-    let is_ready : Ready c.args.request = ready c.args.request (whole c.args.request _ c.well_formed.0) sound_is in
-    let file_long : length (encode (view c.args.request)) ≡ c.file_length-needed.result
-    = is_ready.bytes ∙ sym c.file_length-needed.ensures in
+pub returns-in_err-check_room : goal.returns-in_err-check_room
+returns-in_err-check_room c =
+    let sound = sym c.check_request.ensures ∙ c.in_ok-check_request.was in
+    let is_ready = ready c.args.request (whole c.args.request _ c.well_formed.0) sound in
     let r = c.args.request in
     let out = c.args.out.now in
-    let why = c.in-Refused-enough.why in
-    let short = ap (λ (n : ℕ). check_room n (length out)) file_long ∙ (sym c.check_room-enough.ensures ∙ c.in-Refused-enough.is) in
-    let refused = short_answer (view r) out why sound_is short in record { value = sym refused; out_after = sym (write_refused_keeps (view r) out why refused) }
+    let long : length (encode (view r)) ≡ c.file_length-needed.result = omega (arith, is_ready.bytes) in
+    let refused = short_answer (view r) out _ sound (ap (λ (n : ℕ). check_room n (length out)) long ∙ (sym c.check_room.ensures ∙ c.in_err-check_room.was)) in
+    record { value = search (rules, refused); out_after = sym (write_refused_keeps (view r) out _ refused) }
 
-pub write_band-requires : goal.write_band-requires
-write_band-requires c =
-    let room : c.file_length-needed.result ≤ length c.args.out.now
-    = room_held _ _ (sym c.check_room-enough.ensures ∙ c.in_default-enough.is) in
-    omega (arith, room, c.file_length-needed.ensures)
+pub put_band-requires : goal.put_band-requires
+put_band-requires c =
+    let room = room_held _ _ (sym c.check_room.ensures ∙ c.in_ok-check_room.was) in
+    omega (arith, room)
 
-pub write_links-requires : goal.write_links-requires
-write_links-requires c =
-    let sound_is : check (view c.args.request) ≡ Sound = sym c.check_request-answer.ensures ∙ c.in_default.is in
-    let is_ready : Ready c.args.request = ready c.args.request (whole c.args.request _ c.well_formed.0) sound_is in
-    let room : c.file_length-needed.result ≤ length c.args.out.now
-    = room_held _ _ (sym c.check_room-enough.ensures ∙ c.in_default-enough.is) in record { count_bound = is_ready.few_links; count_in_bounds = omega (arith, room, c.file_length-needed.ensures, c.write_band.auto.out) }
+pub put_links-requires : goal.put_links-requires
+put_links-requires c =
+    let room = room_held _ _ (sym c.check_room.ensures ∙ c.in_ok-check_room.was) in
+    omega (arith, room, band_bytes c.args.request.band)
 
-pub overflow_mul-link_count : goal.overflow_mul-link_count
-overflow_mul-link_count c =
-    let sound_is : check (view c.args.request) ≡ Sound = sym c.check_request-answer.ensures ∙ c.in_default.is in
-    let is_ready : Ready c.args.request = ready c.args.request (whole c.args.request _ c.well_formed.0) sound_is in
-    omega (arith, is_ready.few_links)
-
-pub overflow_add-link_count : goal.overflow_add-link_count
-overflow_add-link_count c =
-    let sound_is : check (view c.args.request) ≡ Sound = sym c.check_request-answer.ensures ∙ c.in_default.is in
-    let is_ready : Ready c.args.request = ready c.args.request (whole c.args.request _ c.well_formed.0) sound_is in
-    omega (arith, is_ready.few_links)
-
-pub write_demands-requires : goal.write_demands-requires
-write_demands-requires c =
-    let sound_is : check (view c.args.request) ≡ Sound = sym c.check_request-answer.ensures ∙ c.in_default.is in
-    let is_ready : Ready c.args.request = ready c.args.request (whole c.args.request _ c.well_formed.0) sound_is in
-    let room : c.file_length-needed.result ≤ length c.args.out.now
-    = room_held _ _ (sym c.check_room-enough.ensures ∙ c.in_default-enough.is) in
-    let ready_now = is_ready in record { count_bound = ready_now.few_demands; routes_fit = ready_now.routes_fit; demands_in_bounds = omega (arith, room, c.file_length-needed.ensures, c.write_band.auto.out, c.write_links.auto.out) }
-
-pub shape_of-out : goal.shape_of-out
-shape_of-out c = c.write_demands.auto.out ∙ c.write_links.auto.out ∙ c.write_band.auto.out
+pub put_demands-requires : goal.put_demands-requires
+put_demands-requires c =
+    let r = c.args.request in
+    let is_ready = ready r (whole r _ c.well_formed.0) (sym c.check_request.ensures ∙ c.in_ok-check_request.was) in
+    let room = room_held _ _ (sym c.check_room.ensures ∙ c.in_ok-check_room.was) in
+    omega (arith, room, band_bytes r.band, links_bytes (take r.link_count r.links))
 
 pub returns : goal.returns
-unfolding view
+unfolding view encode
 returns c =
-    let sound_is : check (view c.args.request) ≡ Sound = sym c.check_request-answer.ensures ∙ c.in_default.is in
-    let is_ready : Ready c.args.request = ready c.args.request (whole c.args.request _ c.well_formed.0) sound_is in
-    let file_long : length (encode (view c.args.request)) ≡ c.file_length-needed.result
-    = is_ready.bytes ∙ sym c.file_length-needed.ensures in
-    let room : c.file_length-needed.result ≤ length c.args.out.now
-    = room_held _ _ (sym c.check_room-enough.ensures ∙ c.in_default-enough.is) in
     let r = c.args.request in
     let out = c.args.out.now in
-    let long = file_long in
-    let fits : length (encode (view r)) ≤ length out = omega (arith, long, room) in
-    let behind : 8 + 5 * r.link_count ≡ 8 + 5 * length (take r.link_count r.links) = omega (arith, is_ready.all_links) in record {
-      value = ap Wrote (sym long) ∙ sym (wrote_answer (view r) out sound_is fits);
-      out_after = all_stored (view r) out c.write_band.new.out c.write_links.new.out c.write_demands.new.out
-          (8 + 5 * r.link_count) sound_is fits behind c.write_band.ensures c.write_links.ensures c.write_demands.ensures;
+    let sound = sym c.check_request.ensures ∙ c.in_ok-check_request.was in
+    let is_ready = ready r (whole r _ c.well_formed.0) sound in
+    let room = room_held _ _ (sym c.check_room.ensures ∙ c.in_ok-check_room.was) in
+    let long : length (encode (view r)) ≡ c.file_length-needed.result = omega (arith, is_ready.bytes) in
+    let fits : length (encode (view r)) ≤ length out = omega (arith, room) in
+    let all = puts_then _ _ _ _ _ c.put_band.ensures (puts_then _ _ _ _ _ c.put_links.ensures c.put_demands.ensures) in
+    record {
+      value = ap Ok (sym long) ∙ sym (wrote_answer (view r) out sound fits);
+      out_after = file_stored (view r) out _ sound fits (search (rules, all.stored));
     }

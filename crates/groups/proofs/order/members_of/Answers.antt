@@ -1,60 +1,34 @@
 use mathlib.Core.Path.{refl}
 use native.Mathlib.Omega.{arith}
 use lib.ListN.{replicate}
-use Rattle.groups.specs.MembersLaws.{written_none, next_number, next_rises, next_within, next_left, written_more, written_all}
+use Rattle.groups.specs.MembersLaws.{written_none, next_rises, next_within, next_left, written_more, written_all}
 use Rattle.groups.proofs.order.members_of.Goals as goal
 
-pub loop-k-init : goal.loop-k-init
-loop-k-init c =
-    written_none c.args.count c.args.m c.args.order.now c.group_starts-first.result (replicate 200 0)
-    c.requires.filled
-    (omega arith)
-    c.group_starts-first.ensures
-    refl
+pub loop-g-init : goal.loop-g-init
+loop-g-init c =
+    written_none c.args.count c.args.order.now c.group_starts-first.result (replicate 200 0) c.requires.filled
+    c.group_starts-first.ensures refl
 
-pub bounds-order-k : goal.bounds-order-k
-bounds-order-k c = omega arith
-
-pub overflow_cast-g : goal.overflow_cast-g
-overflow_cast-g c = record { fits = omega (arith, next_number c.loop-k.invariant (omega arith)) }
-
-pub offset_bounds-first-g : goal.offset_bounds-first-g
-offset_bounds-first-g c = record { fits = omega (arith, next_number c.loop-k.invariant (omega arith)) }
-
-pub bounds-first-g : goal.bounds-first-g
-bounds-first-g c = omega (arith, next_number c.loop-k.invariant (omega arith), c.group_starts-first.ensures.full)
-
-pub overflow_add-to : goal.overflow_add-to
-overflow_add-to c = record { fits = omega (arith, next_number c.loop-k.invariant (omega arith)) }
-
-pub offset_bounds-first-g-in-loop-k : goal.offset_bounds-first-g-in-loop-k
-offset_bounds-first-g-in-loop-k c = record { fits = omega (arith, next_number c.loop-k.invariant (omega arith)) }
-
-pub bounds-first-g-in-loop-k : goal.bounds-first-g-in-loop-k
-bounds-first-g-in-loop-k c = omega (arith, next_number c.loop-k.invariant (omega arith), c.group_starts-first.ensures.full)
+pub overflow_sub-size : goal.overflow_sub-size
+overflow_sub-size c = next_rises c.loop-g.invariant c.loop-g-test.true c.from-g.result c.from-g.ensures
 
 pub put_group-requires : goal.put_group-requires
 put_group-requires c =
-    let so_far = c.loop-k.invariant in (
-      next_rises so_far (omega arith),
-      omega (arith, next_left so_far (omega arith)),
-      omega (arith, next_within so_far (omega arith)),
-      so_far.full,
-    )
-
-pub overflow_sub-at : goal.overflow_sub-at
-overflow_sub-at c = next_rises c.loop-k.invariant (omega arith)
+    let so_far = c.loop-g.invariant in
+    let rises = next_rises so_far c.loop-g-test.true c.from-g.result c.from-g.ensures in
+    let within = next_within so_far c.loop-g-test.true c.from-g.result c.from-g.ensures in
+    let left = next_left so_far c.loop-g-test.true c.from-g.result c.from-g.ensures in
+    (omega (arith, c.requires.sizes), omega (arith, c.requires.sizes), so_far.full)
 
 pub overflow_add-at : goal.overflow_add-at
-overflow_add-at c = record { fits = omega (arith, next_left c.loop-k.invariant (omega arith)) }
+overflow_add-at c =
+    let left = next_left c.loop-g.invariant c.loop-g-test.true c.from-g.result c.from-g.ensures in
+    omega (arith, c.requires.sizes)
 
-pub loop-k-smaller : goal.loop-k-smaller
-loop-k-smaller c = omega arith
-
-pub loop-k-preserved : goal.loop-k-preserved
-loop-k-preserved c =
-    written_more c.loop-k.invariant (omega arith)
-    c.put_group.new.along c.put_group.ensures.kept c.put_group.ensures.put
+pub loop-g-preserved : goal.loop-g-preserved
+loop-g-preserved c =
+    written_more c.loop-g.invariant c.loop-g-test.true c.from-g.result c.from-g.ensures c.put_group.new.along c.put_group.ensures.kept
+    c.put_group.ensures.put
 
 pub returns : goal.returns
-returns c = let so_far = c.loop-k.invariant in (so_far.full, written_all so_far (omega arith))
+returns c = (c.loop-g.invariant.full, written_all c.loop-g.invariant (omega arith))

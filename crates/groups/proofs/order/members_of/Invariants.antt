@@ -1,9 +1,5 @@
-use Prim.Native.Nat.{◌-◌}
 use Rattle.groups.specs.inner.Members.{WrittenTo}
 use Rattle.groups.proofs.order.members_of.Given as goal
 
-abbrev pub invariant-loop-k : goal.invariant-loop-k
-invariant-loop-k l = WrittenTo l.count l.m l.order l.first l.along l.at l.k
-
-abbrev pub decreases-loop-k : goal.decreases-loop-k
-decreases-loop-k l = l.m - l.k
+abbrev pub invariant-loop-g : goal.invariant-loop-g
+invariant-loop-g l = WrittenTo l.count l.order l.first l.along l.at l.g-index

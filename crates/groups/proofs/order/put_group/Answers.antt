@@ -1,42 +1,28 @@
-use Prim.Native.Nat.{◌+◌, ◌-◌}
-use mathlib.Core.List.{◌++◌}
-use mathlib.Core.Path.{refl, ◌∙◌}
-use native.Mathlib.Omega.{arith}
-use lib.ListN.{take, length-set}
+use Rattle.std.specs.Prelude.{ℕ, ◌≡◌, ◌++◌, ◌+◌, take}
+use Rattle.std.proofs.Common.{◌∙◌, sym, ap, arith}
+use Rattle.std.proofs.Math.ListN.{length-set}
 use Rattle.theory.specs.Orders.{count_up}
-use Rattle.groups.specs.MembersLaws.{put_more, put_all}
+use Rattle.groups.specs.MembersLaws.{counted_none, counted_more}
 use Rattle.groups.proofs.order.put_group.Goals as goal
 
-pub loop-i-init : goal.loop-i-init
-loop-i-init c = (omega arith, refl, omega arith, refl)
+pub loop-k-init : goal.loop-k-init
+loop-k-init c = (c.requires.2, counted_none c.args.along.now c.args.at c.args.first)
 
-pub overflow_cast-along : goal.overflow_cast-along
-overflow_cast-along c = record { fits = omega arith }
-
-pub bounds-along-k : goal.bounds-along-k
-bounds-along-k c = omega arith
-
-pub loop-i-smaller : goal.loop-i-smaller
-loop-i-smaller c = omega arith
-
-pub loop-i-preserved : goal.loop-i-preserved
-loop-i-preserved c =
-    let at = c.loop-i in (
-      omega arith,
-      omega arith,
-      length-set at.along at.k at.i ∙ at.invariant.2,
-      put_more at.along at.k c.args.to at.i (omega arith) (omega arith) ∙ at.invariant.3,
+pub loop-k-preserved : goal.loop-k-preserved
+loop-k-preserved c =
+    let at = c.args.at in
+    let turn = c.loop-k in (
+      length-set turn.along (at + turn.k) (c.args.first + turn.k) ∙ turn.invariant.0,
+      counted_more turn.along (take at c.args.along.now) at c.args.first turn.k (omega (arith, turn.invariant.0)) turn.invariant.1,
     )
 
 pub returns : goal.returns
 returns c =
-    let a = c.args in
-    let at = c.loop-i in record {
-      kept = at.invariant.2;
-      put = put_all at.along (take a.at a.along.now ++ count_up (a.to - a.from) a.from) at.k (a.at + (a.to - a.from))
-          a.to
-          at.i
-          (omega arith)
-          (omega arith)
-          at.invariant.3;
+    let at = c.args.at in
+    let turn = c.loop-k in
+    let all : turn.k ≡ c.args.size = omega arith in record {
+      kept = turn.invariant.0;
+      put = ap (λ (n : ℕ). take (at + n) turn.along) (sym all)
+          ∙ turn.invariant.1
+          ∙ ap (λ (n : ℕ). take at c.args.along.now ++ count_up n c.args.first) all;
     }

@@ -3,4 +3,4 @@ use Rattle.host.proofs.certifying.certified_refused.Goals as goal
 
 pub returns : goal.returns
 unfolding certified_refused
-returns c = rw (← c.number.ensures, ← c.place.ensures)
+returns c = cc

@@ -3,4 +3,4 @@ use Rattle.host.proofs.checking.verdict_refused.Goals as goal
 
 pub returns : goal.returns
 unfolding verdict_refused
-returns c = rw (← c.number.ensures, ← c.place.ensures)
+returns c = cc

@@ -2,10 +2,10 @@ use mathlib.Core.Path.{sym, ap, ◌∙◌}
 use Rattle.host.specs.Host.{search_told}
 use Rattle.host.proofs.searching.search_told.Goals as goal
 
-pub returns-in-Answered : goal.returns-in-Answered
+pub returns-in-Ok : goal.returns-in-Ok
 unfolding search_told
-returns-in-Answered c = rw (c.outcome_number.ensures, c.outcome_end.ensures) (sym (ap search_told c.in-Answered.is))
+returns-in-Ok c = rw (c.outcome_number.ensures, c.outcome_end.ensures) (sym (ap search_told c.in-Ok.is))
 
-pub returns-in-Refused : goal.returns-in-Refused
+pub returns-in-Err : goal.returns-in-Err
 unfolding search_told
-returns-in-Refused c = c.answer_refused.ensures ∙ sym (ap search_told c.in-Refused.is)
+returns-in-Err c = c.from.ensures ∙ sym (ap search_told c.in-Err.is)

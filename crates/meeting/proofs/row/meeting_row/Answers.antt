@@ -1,71 +1,42 @@
-use Prim.Native.Nat.{ℕ}
-use mathlib.Core.Bool.{Bool, false}
-use mathlib.Core.List.{map}
-use mathlib.Core.Path.{◌≡◌, subst, ◌∙◌}
-use native.Mathlib.Omega.{arith}
-use borrow.Author.Rules.{rules}
-use lib.ListN.{length, take}
-use Rattle.request.specs.View.{view_demand, demand_at}
+use Rattle.std.proofs.Common.{◌≡◌, ◌∙◌, ◌≤◌, ap, ap₂, subst, get_or, ℕ, Bool, false, map, take, length, rules, arith}
+use Rattle.std.proofs.lemmas.List.{length-map}
+use Rattle.request.specs.View.{no_entry, DemandView, view_demand, demand_at}
 use Rattle.request.specs.Sharing.{share_link}
+use Rattle.meeting.specs.AskedLaws.{asked_at}
 use Rattle.meeting.specs.inner.Filling.{FilledTo}
 use Rattle.meeting.specs.FillingLaws.{filled_none, filled_more}
-use Rattle.meeting.specs.MeetingLaws.{joined_at, row_none, row_whole}
+use Rattle.meeting.specs.MeetingLaws.{row_none, row_whole}
 use Rattle.meeting.proofs.row.meeting_row.Goals as goal
 
-pub returns-then-asked-i : goal.returns-then-asked-i
-returns-then-asked-i c =
-    let full : ◌≡◌ {A = ℕ} (length c.args.demands) 200 = search rules in
-    row_none (map view_demand (take c.args.count c.args.demands)) c.args.i (omega (arith, c.demands_asked-asked.ensures.counts c.args.demands full))
-
-pub offset_bounds-demands-i : goal.offset_bounds-demands-i
-offset_bounds-demands-i c = omega (arith, c.demands_asked-asked.ensures.within)
-
-pub bounds-demands-i : goal.bounds-demands-i
-bounds-demands-i c =
-    let full : ◌≡◌ {A = ℕ} (length c.args.demands) 200 = search rules in
-    omega (arith, full, c.demands_asked-asked.ensures.within)
-
 pub loop-j-init : goal.loop-j-init
-loop-j-init c = (omega arith, filled_none Bool (λ (k : ℕ). share_link (demand_at (map view_demand (take c.args.count c.args.demands)) k).route (demand_at (map view_demand (take c.args.count c.args.demands)) c.args.i).route) false 200)
-
-pub offset_bounds-demands-j : goal.offset_bounds-demands-j
-offset_bounds-demands-j c = omega (arith, c.demands_asked-asked.ensures.within)
-
-pub bounds-demands-j : goal.bounds-demands-j
-bounds-demands-j c =
-    let full : ◌≡◌ {A = ℕ} (length c.args.demands) 200 = search rules in
-    omega (arith, full, c.demands_asked-asked.ensures.within)
-
-pub share_word-requires : goal.share_word-requires
-share_word-requires c = (c.route_word-word.ensures, c.in_word-whole.ensures)
-
-pub bounds-row-j : goal.bounds-row-j
-bounds-row-j c = omega (arith, c.demands_asked-asked.ensures.within)
-
-pub loop-j-smaller : goal.loop-j-smaller
-loop-j-smaller c = omega arith
+loop-j-init c = filled_none Bool _ false 200
 
 pub loop-j-preserved : goal.loop-j-preserved
 loop-j-preserved c =
-    let full : ◌≡◌ {A = ℕ} (length c.args.demands) 200 = search rules in
-    let asked = c.demands_asked-asked.ensures in
-    let many = asked.counts c.args.demands full in
+    let a = c.args in
     let turn = c.loop-j in
-    let j : ℕ = turn.j in (
-      omega arith,
-      filled_more Bool (λ (k : ℕ). share_link (demand_at (map view_demand (take c.args.count c.args.demands)) k).route (demand_at (map view_demand (take c.args.count c.args.demands)) c.args.i).route) false 200 j
-          turn.row
-          c.share_word.result
-          (omega (arith, asked.within))
-          (c.share_word.ensures
-          ∙ joined_at c.args.demands c.args.count j c.args.i (omega (arith, many)) (omega (arith, many)))
-          turn.invariant.1,
-    )
+    let asked = c.asked_of-asked.ensures in
+    let route = λ (d : DemandView). d.route in
+    let here = asked_at c.asked_of-asked.result.now a.demands a.count turn.j no_entry asked.asked c.loop-j-test.true in
+    let own = asked_at c.asked_of-asked.result.now a.demands a.count a.i c.in-Some.demand.now asked.asked (search rules) in
+    let of-own : c.in-Some.demand.now ≡ get_or c.asked_of-asked.result.now a.i c.in-Some.demand.now = search rules in
+    filled_more Bool _ false 200 turn.j turn.row c.met_by.result (omega (arith, asked.room))
+    (c.met_by.ensures
+    ∙ ap₂ share_link (c.route-in-loop-j.ensures.route ∙ ap route here)
+    (c.new-worded.ensures ∙ c.route.ensures.route ∙ ap route (ap view_demand of-own ∙ own)))
+    turn.invariant
 
-pub returns : goal.returns
-returns c =
-    let full : ◌≡◌ {A = ℕ} (length c.args.demands) 200 = search rules in
-    let done : c.loop-j.j ≡ length (map view_demand (take c.args.count c.args.demands))
-    = omega (arith, c.demands_asked-asked.ensures.counts c.args.demands full) in
-    row_whole (map view_demand (take c.args.count c.args.demands)) c.args.i c.loop-j.row
-    (subst (λ (j : ℕ). FilledTo Bool (λ (k : ℕ). share_link (demand_at (map view_demand (take c.args.count c.args.demands)) k).route (demand_at (map view_demand (take c.args.count c.args.demands)) c.args.i).route) false 200 j c.loop-j.row) done c.loop-j.invariant.1)
+pub returns-after-loop-j : goal.returns-after-loop-j
+returns-after-loop-j c =
+    let demands = map view_demand (take c.args.count c.args.demands) in
+    let done : c.loop-j.j ≡ length demands =
+    omega (arith, length-map (take c.args.count c.args.demands) view_demand, ap length c.asked_of-asked.ensures.asked) in
+    row_whole demands c.args.i c.loop-j.row
+    (subst (λ (j : ℕ). FilledTo Bool (λ (k : ℕ). share_link (demand_at demands k).route (demand_at demands c.args.i).route) false 200 j c.loop-j.row) done
+    c.loop-j.invariant)
+
+pub returns-in_default : goal.returns-in_default
+returns-in_default c =
+    let none : length c.asked_of-asked.result.now ≤ c.args.i = search rules in
+    row_none (map view_demand (take c.args.count c.args.demands)) c.args.i
+    (omega (arith, length-map (take c.args.count c.args.demands) view_demand, ap length c.asked_of-asked.ensures.asked))

@@ -1,42 +1,10 @@
-use Prim.Native.Nat.{ℕ}
-use mathlib.Core.Bool.{Bool, false}
-use mathlib.Core.Path.{◌≡◌}
-use native.Mathlib.Omega.{arith}
-use borrow.Author.Rules.{rules}
-use lib.ListN.{length, get_or, get_or-eq_default}
-use Rattle.meeting.specs.FillingLaws.{filled_none, filled_more}
+use Rattle.std.proofs.Common.{◌≡◌, ℕ, false, get_or, rules}
 use Rattle.meeting.specs.Compact.{share_bit, word_row}
-use Rattle.meeting.specs.CompactLaws.{filled_whole, nobody_behind, row_empty}
+use Rattle.meeting.specs.MadeLaws.{mapped}
 use Rattle.meeting.proofs.words.word_row.Goals as goal
-
-pub returns-then-i-ge200 : goal.returns-then-i-ge200
-returns-then-i-ge200 c =
-    let full : ◌≡◌ {A = ℕ} (length c.args.words) 200 = search rules in
-    row_empty c.args.words c.args.i (get_or-eq_default c.args.words 0 {n = c.args.i} (omega (arith, full)))
-
-pub loop-j-init : goal.loop-j-init
-loop-j-init c =
-    let words = c.args.words in
-    (omega arith, filled_none Bool (λ (k : ℕ). share_bit (get_or words k 0) (get_or words c.args.i 0)) false 200)
-
-pub loop-j-smaller : goal.loop-j-smaller
-loop-j-smaller c = omega arith
-
-pub loop-j-preserved : goal.loop-j-preserved
-loop-j-preserved c =
-    let words = c.args.words in
-    let turn = c.loop-j in (
-      omega arith,
-      filled_more Bool (λ (k : ℕ). share_bit (get_or words k 0) (get_or words c.args.i 0)) false 200 turn.j turn.row c.share_bit.result
-          c.loop-j-test.true
-          c.share_bit.ensures
-          turn.invariant.1,
-    )
 
 pub returns : goal.returns
 unfolding word_row
 returns c =
-    let words = c.args.words in
-    let full : ◌≡◌ {A = ℕ} (length c.args.words) 200 = search rules in
-    filled_whole Bool (λ (k : ℕ). share_bit (get_or words k 0) (get_or words c.args.i 0)) false 200 c.loop-j.j c.loop-j.row c.loop-j.invariant.1
-    (λ k h l. nobody_behind words k (get_or words c.args.i 0) (omega (arith, full)))
+    let here : c.unwrap_or-word.result ≡ get_or c.args.words c.args.i 0 = search rules in
+    rw (← here) (mapped _ _ (λ (word : ℕ). share_bit word c.unwrap_or-word.result) (λ x y q h. search rules) 200 c.args.words c.map.result 0 false c.map.ensures.items)

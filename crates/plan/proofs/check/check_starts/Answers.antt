@@ -1,86 +1,72 @@
-use mathlib.Core.Path.{◌≡◌, sym, ap, ap₂, ◌∙◌}
-use Rattle.request.specs.declared.Checked.TheVariants.{Sound}
+use Rattle.std.proofs.Common.{sym, ap, ap₂, ◌∙◌}
+use Rattle.std.proofs.lemmas.Result.{err_from_is_err_and}
 use Rattle.request.specs.View.{view}
-use Rattle.request.specs.Check.{check}
-use Rattle.request.specs.Sound.{SoundRequest}
-use Rattle.request.proofs.SoundLaws.{check_sound, whole_counted}
-use Rattle.request.specs.inner.Limits.{Limits}
-use Rattle.request.proofs.LimitsLaws.{checked_limits}
 use Rattle.request.proofs.Arrays.{whole}
 use Rattle.meeting.specs.Plan.{end_of_plan}
-use Rattle.plan.specs.CheckStarts.{check_starts, check_places, reply_with, starts_reply}
+use Rattle.plan.specs.CheckStarts.{reply_with, starts_reply}
 use Rattle.plan.specs.CheckStartsLaws.{request_refused_lem, count_refused, places_decide}
-use Rattle.plan.specs.SmallLaws.{small_kept, small_enough, small_places, small_within, small_end}
+use Rattle.plan.specs.SmallLaws.{passed, small_kept, small_enough, small_places, small_within, small_end}
 use Rattle.plan.proofs.check.check_starts.Goals as goal
 
-pub returns-in-Refused : goal.returns-in-Refused
+pub returns-in_err-check_request : goal.returns-in_err-check_request
 unfolding starts_reply reply_with
-returns-in-Refused c =
-    let a = c.args in
-    let v = view a.request in
-    sym
-    (ap (λ x. reply_with x (end_of_plan v a.starts.now))
-    (request_refused_lem v a.starts.now c.in-Refused.why (sym c.check_request-sound.ensures ∙ c.in-Refused.is)))
+returns-in_err-check_request c =
+    let v = view c.args.request in
+    let starts = c.args.starts.now in
+    let handed-on = err_from_is_err_and c.from_residual.result c.from_residual.ensures.1 in
+    rw (handed-on.1, handed-on.2)
+    (sym
+    (ap (λ x. reply_with x (end_of_plan v starts))
+    (request_refused_lem v starts _ (sym c.check_request.ensures ∙ c.in_err-check_request.was))))
 
 pub returns-then-starts-request : goal.returns-then-starts-request
 unfolding view starts_reply reply_with
 returns-then-starts-request c =
-    let passes : check (view c.args.request) ≡ Sound = sym c.check_request-sound.ensures ∙ c.in_default.is in
-    let a = c.args in
-    let v = view a.request in
-    sym (ap (λ x. reply_with x (end_of_plan v a.starts.now)) (count_refused v a.starts.now passes c.if-starts-request.true))
+    let v = view c.args.request in
+    let starts = c.args.starts.now in
+    sym (ap (λ x. reply_with x (end_of_plan v starts))
+    (count_refused v starts (sym c.check_request.ensures ∙ c.in_ok-check_request.was) c.if-starts-request.true))
 
-pub check_places-placed-requires : goal.check_places-placed-requires
+pub invariant_of-plan : goal.invariant_of-plan
 unfolding view
-check_places-placed-requires c =
-    let passes : check (view c.args.request) ≡ Sound = sym c.check_request-sound.ensures ∙ c.in_default.is in
-    let limits : Limits (view c.args.request) = checked_limits c.args.request (whole c.args.request _ c.well_formed.0) passes in
-    let sound : SoundRequest (view c.args.request)
-    = check_sound (view c.args.request) (whole_counted c.args.request (whole c.args.request _ c.well_formed.0)) passes in
-    let a = c.args in
-    let v = view a.request in record { small = small_kept v sound limits _ c.compacted-compact.ensures; count_in_bounds = small_enough v sound limits _ c.compacted-compact.ensures a.starts.now c.if-starts-request.false }
+invariant_of-plan c =
+    let v = view c.args.request in
+    let (limits, sound) = passed c.args.request (whole c.args.request _ c.well_formed.0) (sym c.check_request.ensures ∙ c.in_ok-check_request.was) in record {
+      small = small_kept v sound limits _ c.compacted-compact.ensures;
+      enough = small_enough v sound limits _ c.compacted-compact.ensures c.args.starts.now c.if-starts-request.false;
+    }
 
-pub returns-in-Refused-placed : goal.returns-in-Refused-placed
+pub returns-in_err-check : goal.returns-in_err-check
 unfolding starts_reply reply_with view
-returns-in-Refused-placed c =
-    let passes : check (view c.args.request) ≡ Sound = sym c.check_request-sound.ensures ∙ c.in_default.is in
-    let limits : Limits (view c.args.request) = checked_limits c.args.request (whole c.args.request _ c.well_formed.0) passes in
-    let sound : SoundRequest (view c.args.request)
-    = check_sound (view c.args.request) (whole_counted c.args.request (whole c.args.request _ c.well_formed.0)) passes in
-    let found : c.check_places-placed.result ≡ check_places (view c.args.request) c.args.starts.now
-    = let a = c.args in c.check_places-placed.ensures ∙ small_places (view a.request) sound limits _ c.compacted-compact.ensures a.starts.now in
-    let decide : check_starts (view c.args.request) c.args.starts.now ≡ c.check_places-placed.result
-    = let a = c.args in places_decide (view a.request) a.starts.now passes c.if-starts-request.false ∙ sym found in
-    let a = c.args in
-    let v = view a.request in
-    sym (ap (λ x. reply_with x (end_of_plan v a.starts.now)) (decide ∙ c.in-Refused-placed.is))
+returns-in_err-check c =
+    let v = view c.args.request in
+    let starts = c.args.starts.now in
+    let passes = sym c.check_request.ensures ∙ c.in_ok-check_request.was in
+    let (limits, sound) = passed c.args.request (whole c.args.request _ c.well_formed.0) passes in
+    let found = c.check.ensures ∙ small_places v sound limits _ c.compacted-compact.ensures starts in
+    let handed-on = err_from_is_err_and c.from_residual-in_err-check.result c.from_residual-in_err-check.ensures.1 in
+    rw (handed-on.1, handed-on.2)
+    (sym (ap (λ x. reply_with x (end_of_plan v starts))
+    (places_decide v starts passes c.if-starts-request.false ∙ sym found ∙ c.in_err-check.was)))
 
-pub plan_end-requires : goal.plan_end-requires
+pub end-requires : goal.end-requires
 unfolding view
-plan_end-requires c =
-    let passes : check (view c.args.request) ≡ Sound = sym c.check_request-sound.ensures ∙ c.in_default.is in
-    let limits : Limits (view c.args.request) = checked_limits c.args.request (whole c.args.request _ c.well_formed.0) passes in
-    let sound : SoundRequest (view c.args.request)
-    = check_sound (view c.args.request) (whole_counted c.args.request (whole c.args.request _ c.well_formed.0)) passes in
-    let found : c.check_places-placed.result ≡ check_places (view c.args.request) c.args.starts.now
-    = let a = c.args in c.check_places-placed.ensures ∙ small_places (view a.request) sound limits _ c.compacted-compact.ensures a.starts.now in
-    let a = c.args in
+end-requires c =
+    let v = view c.args.request in
+    let starts = c.args.starts.now in
+    let (limits, sound) = passed c.args.request (whole c.args.request _ c.well_formed.0) (sym c.check_request.ensures ∙ c.in_ok-check_request.was) in
     let is = c.compacted-compact.ensures in
-    let v = view a.request in record { small = small_kept v sound limits _ is; count_in_bounds = small_enough v sound limits _ is a.starts.now c.if-starts-request.false; ends_within = small_within v sound limits _ is a.starts.now (sym found ∙ c.in_default-placed.is) }
+    small_within v sound limits _ is starts (sym (c.check.ensures ∙ small_places v sound limits _ is starts) ∙ c.in_ok-check.was)
 
 pub returns : goal.returns
 unfolding starts_reply reply_with view
 returns c =
-    let passes : check (view c.args.request) ≡ Sound = sym c.check_request-sound.ensures ∙ c.in_default.is in
-    let limits : Limits (view c.args.request) = checked_limits c.args.request (whole c.args.request _ c.well_formed.0) passes in
-    let sound : SoundRequest (view c.args.request)
-    = check_sound (view c.args.request) (whole_counted c.args.request (whole c.args.request _ c.well_formed.0)) passes in
-    let found : c.check_places-placed.result ≡ check_places (view c.args.request) c.args.starts.now
-    = let a = c.args in c.check_places-placed.ensures ∙ small_places (view a.request) sound limits _ c.compacted-compact.ensures a.starts.now in
-    let decide : check_starts (view c.args.request) c.args.starts.now ≡ c.check_places-placed.result
-    = let a = c.args in places_decide (view a.request) a.starts.now passes c.if-starts-request.false ∙ sym found in
-    let a = c.args in
-    let v = view a.request in
+    let v = view c.args.request in
+    let starts = c.args.starts.now in
+    let passes = sym c.check_request.ensures ∙ c.in_ok-check_request.was in
+    let (limits, sound) = passed c.args.request (whole c.args.request _ c.well_formed.0) passes in
+    let is = c.compacted-compact.ensures in
+    let found = c.check.ensures ∙ small_places v sound limits _ is starts in
     sym
-    (ap₂ reply_with (decide ∙ c.in_default-placed.is)
-    (sym (c.plan_end.ensures ∙ small_end v sound limits _ c.compacted-compact.ensures a.starts.now)))
+    (ap₂ reply_with (places_decide v starts passes c.if-starts-request.false ∙ sym found ∙ c.in_ok-check.was)
+    (sym (c.end.ensures ∙ small_end v sound limits _ is starts)))

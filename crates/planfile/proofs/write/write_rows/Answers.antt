@@ -1,54 +1,32 @@
-use Prim.Native.Nat.{ℕ, ◌+◌, ◌*◌, min}
-use mathlib.Core.List.{List}
-use mathlib.Core.Path.{◌≡◌, refl, sym, ap, ◌∙◌}
-use native.Mathlib.Omega.{arith}
-use lib.ListN.{length, drop}
-use lib.Seq.{sets, length-sets}
-use borrow.Author.Rules.{rules}
-use Rattle.request.specs.View.{view, view_demand, demand_at}
-use Rattle.request.proofs.ViewLaws.{demands_shown, demand_shown, mapped_length}
+use Rattle.std.proofs.Common.{ℕ, List, get_or, ◌≡◌, ◌+◌, ◌*◌, ◌-◌, drop, map, sym, ap, ◌∙◌, arith}
+use Rattle.std.proofs.lemmas.List.Edits.{sets}
+use Rattle.std.proofs.lemmas.List.{length-map}
+use Rattle.lent.specs.LentLaws.{part_stored}
+use Rattle.request.specs.View.{DemandView, view_demand, demand_at, no_entry, no_demand}
+use Rattle.request.proofs.ViewLaws.{map_at}
 use Rattle.meeting.specs.Plan.{start_at}
-use Rattle.planfile.specs.PlanFile.{row_field, row_fields, encode_plan}
-use Rattle.planfile.proofs.PlanFileLaws.{store_turn, rows_done}
+use Rattle.planfile.specs.PlanFile.{row_field, row_fields}
+use Rattle.planfile.proofs.PlanFileLaws.{row_length, store_turn, rows_done}
 use Rattle.planfile.proofs.write.write_rows.Goals as goal
 
-pub loop-k-init : goal.loop-k-init
-loop-k-init c = (search rules, refl, refl)
-
-pub write_row-requires : goal.write_row-requires
-write_row-requires c = omega arith
-
-pub loop-k-smaller : goal.loop-k-smaller
-loop-k-smaller c = omega arith
-
 pub loop-k-preserved : goal.loop-k-preserved
-unfolding start_at view_demand
+unfolding start_at view_demand demand_at
 loop-k-preserved c =
-    let request = c.args.request in
     let starts = c.args.starts.now in
-    let v = view request in
+    let demands = c.args.demands.now in
+    let views = map view_demand demands in
     let k = c.loop-k.k in
-    let all : ◌≡◌ {A = ℕ} (length request.demands) 200 = search (mapped_length, rules) in
-    let shown : length v.demands ≡ min request.demand_count (length request.demands) = demands_shown request in
     let out = c.loop-k.out in
-    let row = row_field (demand_at v.demands k).ident (start_at starts k) in
-    let written : c.write_row.new.out ≡ sets out (7 * k) row = rw (demand_shown request k (omega arith)) c.write_row.ensures in (
-      omega arith,
-      ap length written ∙ (length-sets out (7 * k) row ∙ c.loop-k.invariant.1),
-      c.loop-k.invariant.2 ∙ (store_turn out starts v.demands k (omega arith)
-          ∙ ap (λ (l : List ℕ). sets l (7 * (k + 1)) (row_fields starts (k + 1) (drop (k + 1) v.demands))) (sym written)),
-    )
-
-pub shape_of-out : goal.shape_of-out
-shape_of-out c = c.loop-k.invariant.1
+    let counted = length-map demands view_demand in
+    let row = row_field (demand_at views k).ident (start_at starts k) in
+    let seen : (demand_at views k).ident ≡ (get_or demands k no_entry).ident = ap (λ (d : DemandView). d.ident) (map_at view_demand demands k no_entry no_demand (omega arith)) in
+    let same : c.copy_from_slice.new.self ≡ row = rw seen (c.copy_from_slice.ensures.after ∙ c.row_field.ensures) in
+    let long = row_length (demand_at views k).ident (start_at starts k) in
+    let stored = part_stored out c.copy_from_slice.new.self row (7 * k) (7 * k + 7 - 7 * k) (omega arith) same (omega arith) in
+    c.loop-k.invariant ∙ store_turn out starts views k (omega arith)
+    ∙ ap (λ (o : List ℕ). sets o (7 * (k + 1)) (row_fields starts (k + 1) (drop (k + 1) views))) (sym stored)
 
 pub returns : goal.returns
-unfolding encode_plan
 returns c =
-    let request = c.args.request in
-    let starts = c.args.starts.now in
-    let v = view request in
-    let k = c.loop-k.k in
-    let all : ◌≡◌ {A = ℕ} (length request.demands) 200 = search (mapped_length, rules) in
-    let shown : length v.demands ≡ min request.demand_count (length request.demands) = demands_shown request in
-    sym (c.loop-k.invariant.2 ∙ ap (λ (file : List ℕ). sets c.loop-k.out (7 * k) file) (rows_done starts v.demands k (omega arith)))
+    let views = map view_demand c.args.demands.now in
+    sym (c.loop-k.invariant ∙ ap (λ (file : List ℕ). sets c.loop-k.out (7 * c.loop-k.k) file) (rows_done c.args.starts.now views c.loop-k.k (omega (arith, length-map c.args.demands.now view_demand))))

@@ -1,8 +1,7 @@
-use mathlib.Core.Path.{refl}
+use Rattle.std.proofs.Common.{refl}
 use Rattle.report.specs.Text.{empty_page}
 use Rattle.report.proofs.Page.empty.Goals as goal
 
--- src/lib.rt:18:5
-pub returns : goal.returns
+pub returns-clause-value : goal.returns-clause-value
 unfolding empty_page
-returns c = refl
+returns-clause-value c = refl

@@ -1,0 +1,3 @@
+-- What stands before the number of a failure.
+pub mod Words
+pub mod WordsLaws

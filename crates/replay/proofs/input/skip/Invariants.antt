@@ -1,5 +1,0 @@
--- Each turn leaves less to skip.
-use Rattle.replay.proofs.input.skip.Given as goal
-
-abbrev pub decreases-loop-left : goal.decreases-loop-left
-decreases-loop-left l = l.left

@@ -1,6 +1,0 @@
--- Each turn prints one byte more.
-use Rattle.std.proofs.Common.{◌-◌, length}
-use Rattle.replay.proofs.say.bytes.Given as goal
-
-abbrev pub decreases-loop-i : goal.decreases-loop-i
-decreases-loop-i l = length l.buffer - l.i

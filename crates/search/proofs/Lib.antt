@@ -1,2 +1,0 @@
--- What proofs about the search share.
-pub mod Arrays
