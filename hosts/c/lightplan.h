@@ -56,9 +56,9 @@ extern "C" {
 /* In the blockers of lightplan_search and lightplan_groups: nobody is in the way. Listing positions are below LIGHTPLAN_DEMANDS. */
 #define LIGHTPLAN_NOBODY 65535
 
-/* A stack of so many bytes is enough for any of the calls, on x86-64. Measured with the heaviest inputs: lightplan_read 55824,
-   lightplan_read_routes 59296, lightplan_check 58720, lightplan_search 69424, lightplan_groups 91840, lightplan_check_starts 46048,
-   lightplan_certify 59824, lightplan_frequency 48, lightplan_version 8. */
+/* A stack of so many bytes is enough for any of the calls, on x86-64. Measured with the heaviest inputs: lightplan_read 56000,
+   lightplan_read_routes 59456, lightplan_check 58896, lightplan_search 69616, lightplan_groups 92016, lightplan_check_starts 46224,
+   lightplan_certify 60000, lightplan_frequency 48, lightplan_version 8. */
 #define LIGHTPLAN_STACK 114688
 
 /* Why there is no answer. "Offset" is the byte of the file where the faulty field begins. */

@@ -163,6 +163,30 @@ module _ (meets : List Bool) (starts ends : List ℕ) (count width guard slots n
       (omega (arith, found, limit)) told (omega (arith, limit))
       ∙ ap (λ (n : ℕ). placed_beside (board_problem meets starts ends width guard) (number_rows n starts) 200 slots) many
 
+  -- so the answer is what the scan has found, with the blocker below it
+  pub one_placed : record { spot = spot_below start above; blocker = blocker } ≡ placed_one meets starts ends count width guard slots
+  one_placed =
+      by_test (ltb start above)
+      (λ t.
+      let h : start < above = ltb-true start above t in
+      rw (below_at start above h) (one_found h))
+      (λ f.
+      let h : above ≤ start = ltb-false start above f in
+      rw (below_nowhere start above h) (one_missed h))
+
+module _ (meets : List Bool) (starts ends : List ℕ) (count width guard slots numbers : ℕ) (past : List ℕ) (span above start : ℕ)
+    (many : numbers ≡ min count 200) (known : PastEnds meets starts ends guard numbers past) (wide : span ≡ width + guard)
+    (limit : above ≡ (slots + 1) - width)
+    (found : start ≡ min (lowest (near_problem past starts span) (number_rows numbers starts) 200) above) where
+  -- where the demand starts is known without the blocker
+  pub spot_placed : spot_below start above ≡ (placed_one meets starts ends count width guard slots).spot
+  spot_placed =
+      ap (λ (p : Placement). p.spot)
+      (one_placed meets starts ends count width guard slots numbers past span above start
+      (blocker_told (theory.blocker_below (near_problem past starts span) (number_rows numbers starts) 200 start))
+      many known wide limit found refl)
+
+-- the same of a scan over the front of the starts alone
 module _ (meets : List Bool) (starts ends : List ℕ) (count width guard slots : ℕ) (past front : List ℕ) (span above start : ℕ) (long : length starts ≡ 200)
     (known : PastEnds meets starts ends guard (min count 200) past) (cut : front ≡ take (min count 200) starts) (wide : span ≡ width + guard)
     (limit : above ≡ (slots + 1) - width)
@@ -181,9 +205,9 @@ module _ (meets : List Bool) (starts ends : List ℕ) (count width guard slots :
 
   module _ (blocker : Option ℕ) (told : blocker ≡ blocker_told (theory.blocker_below (near_problem past front span) (number_rows (length front) front) 200 start)) where
     -- the answer is what the scan has found, with the blocker below it: the demand is placed where the scan ends below the limit
-    pub one_placed : record { spot = spot_below start above; blocker = blocker } ≡ placed_one meets starts ends count width guard slots
+    pub front_placed : record { spot = spot_below start above; blocker = blocker } ≡ placed_one meets starts ends count width guard slots
     unfolding placed_one board_problem
-    one_placed =
+    front_placed =
         by_test (ltb start above)
         (λ t.
         let h : start < above = ltb-true start above t in
@@ -199,10 +223,10 @@ module _ (meets : List Bool) (starts ends : List ℕ) (count width guard slots :
         (omega (arith, found, limit)) told (omega (arith, limit))))
 
   -- where the demand starts is known without the blocker
-  pub spot_placed : spot_below start above ≡ (placed_one meets starts ends count width guard slots).spot
-  spot_placed =
+  pub front_spot : spot_below start above ≡ (placed_one meets starts ends count width guard slots).spot
+  front_spot =
       ap (λ (p : Placement). p.spot)
-      (one_placed (blocker_told (theory.blocker_below (near_problem past front span) (number_rows (length front) front) 200 start)) refl)
+      (front_placed (blocker_told (theory.blocker_below (near_problem past front span) (number_rows (length front) front) 200 start)) refl)
 
 -- a caller with a problem of his own, in which the same numbers clash, gets his own answer
 pub place_one_same : (P : Problem) (rows : List Row) (i : ℕ) (meets : List Bool) (starts ends : List ℕ) (count width guard slots : ℕ) →

@@ -10,7 +10,8 @@ use Rattle.std.proofs.Math.ListN.{get_or, set}
 use Rattle.std.proofs.lemmas.List.{take-set-le}
 use Rattle.std.proofs.Math.Seq.{get_or-set_same}
 use Rattle.std.proofs.lemmas.Bool.{eqb-false}
-use Rattle.theory.specs.Problem.{Problem, Row, fill, top}
+use Rattle.theory.specs.Problem.{Problem, Row, lowest, place, fill, top}
+use Rattle.theory.proofs.ProblemLaws.{end_is, fill_cons, top_fill, top_place}
 use Rattle.theory.proofs.TestLaws.{by_test}
 use Rattle.theory.proofs.TriedLaws.{below_or_not}
 use Rattle.theory.specs.Orders.{count_up, spread, orders_of}
@@ -43,6 +44,20 @@ path_more order placed g room =
     ap (λ (n : ℕ). take n (set order placed g)) (add-one placed)
     ∙ take-suc (set order placed g) placed 0 (omega (arith, length-set order placed g))
     ∙ ap₂ (λ (l : List ℕ) (x : ℕ). l ++ (x ∷ [])) (take-set-le placed order placed g (omega arith)) (get_or-set_same order placed g 0 room)
+
+-- a demand that is placed ends above 0
+some_top : (P : Problem) (K guard : ℕ) (rows : List Row) (n k : ℕ) → OnBoard P K guard → 1 ≤ n → k < K → 1 ≤ top P (fill P rows (count_up n k))
+unfolding count_up
+some_top P K guard rows zero k board some listed = absurd (omega arith)
+some_top P K guard rows (suc n) k board some listed =
+    omega (
+      arith,
+      ap (top P) (fill_cons P rows k (count_up n (suc k))),
+      top_fill P (place P rows k) (count_up n (suc k)),
+      top_place P rows k,
+      end_is P k (lowest P rows k),
+      board.wide k listed,
+    )
 
 -- an array with an order in front and 0 behind it is that order as it is told
 pub order_whole : (order path : List ℕ) (n : ℕ) → length order ≡ 8 → n ≤ 8 → take n order ≡ path → ((k : ℕ) → n ≤ k → get_or order k 0 ≡ 0) →

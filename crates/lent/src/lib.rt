@@ -32,6 +32,7 @@ pub fn check_rooms(need: usize, rooms: &[usize]) -> Result<(), Refusal>
 pub fn write_front(entries: &[u16], out: &mut [u16])
     ensures { out.new ≡ over (take (length out.old) entries.now) out.old }
 {
-    let count = entries.len().min(out.len());
-    out[..count].copy_from_slice(&entries[..count]);
+    for k in 0..entries.len().min(out.len()) {
+        out[k] = entries[k];
+    }
 }

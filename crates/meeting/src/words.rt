@@ -41,6 +41,15 @@ pub fn share_bit(word: u64, other: u64) -> bool
 pub fn word_row(words: [u64; 200], i: usize) -> [bool; 200]
     ensures { result ≡ word_row words i }
 {
-    let word = words.get(i).copied().unwrap_or(0);
-    words.map(|other| share_bit(other, word))
+    let mut row = [false; 200];
+    if words.len() <= i {
+        return row;
+    }
+    let word = words[i];
+    // Kept as it is: by index the compiler looks at several words at once; with `map` the words are copied and looked at one after the
+    // other, and first fit took up to twice as long.
+    for j in 0..200 {
+        row[j] = share_bit(words[j], word);
+    }
+    row
 }

@@ -12,7 +12,7 @@ ghost use Rattle.reading.specs.inner.PartsPacking.{pack_links, pack_demands, ban
 use fields::{check_field, number_in};
 use grid::Band;
 use refusal::Refusal;
-use request::{Asked, Demand, Link, Request, empty_demand, test_demand};
+use request::{Asked, Demand, Link, Request, empty_request, test_demand};
 
 // The links of a file: how many, and where the field behind them stands.
 // Kept as it is: an array with its count, here and in the demands, as there is no heap; `Request`, which is public, has them so.
@@ -143,7 +143,8 @@ fn read_demands(
     requires { start ≤ length file.now }
     ensures { result ≡ pack_demands (read_demands 201 slots (take link_count links) file.now start []) }
 {
-    let mut demands = [empty_demand(); 200];
+    // Behind the last demand stands what stands in the empty request.
+    let mut demands = empty_request().demands;
     let mut idents = [0u16; 200];
     let mut count = 0;
     let mut at = start;

@@ -81,9 +81,20 @@ fn read_body<'a>(mut stdin: Stdin, length: usize, room: &'a mut [u8]) -> Result<
     let kept = length.min(room.len());
     let front = &mut room[..kept];
     stdin.read_exact(front)?;
-    let rest = (length - kept) as u64;
-    if io::copy(&mut stdin.take(rest), &mut io::sink())? < rest {
-        return Err(Trouble::Malformed);
-    }
+    skip(stdin, (length - kept) as u64)?;
     Ok(front)
+}
+
+// Reads that many bytes and forgets them, part by part. The input ends where a part has no byte: an end behind some bytes of a part, as a
+// terminal can tell it, is followed by another read.
+fn skip(stdin: Stdin, count: u64) -> Result<(), Trouble> {
+    let mut left = count;
+    while left > 0 {
+        let got = io::copy(&mut stdin.take(left.min(4096)), &mut io::sink())?;
+        if got == 0 {
+            return Err(Trouble::Malformed);
+        }
+        left = left.saturating_sub(got);
+    }
+    Ok(())
 }

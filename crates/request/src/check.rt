@@ -4,7 +4,7 @@ ghost use Rattle.request.specs.View.{view, view_demand};
 ghost use Rattle.request.specs.Check.{check_demand, check};
 ghost use Rattle.request.specs.Steps.{check_all_links, check_ground};
 
-use crate::tests::{listed, tests_of};
+use crate::tests::{listed, test_demand};
 use crate::{Demand, Link, Request};
 use grid::Band;
 use refusal::Refusal;
@@ -16,12 +16,13 @@ pub fn check_request(request: Request) -> Result<(), Refusal>
 {
     check_ground(request.band, request.links, request.link_count)?;
     let slots = request.band.slots;
-    let links = listed(&request.links, request.link_count);
+    let links = request.links;
+    let link_count = request.link_count;
     // Kept as it is: a function for the first so many of any array, over its type and its length, is no plainer than these two lines.
     let asked = request.demand_count.min(Request::MOST_DEMANDS);
     let mut idents = [0; 200];
     for (k, demand) in request.demands[..asked].iter().enumerate() {
-        check_demand(demand, k, slots, links, &idents[..k])?;
+        check_demand(*demand, k, slots, links, link_count, &idents[..k])?;
         idents[k] = demand.ident;
     }
     if Request::MOST_DEMANDS < request.demand_count {
@@ -63,15 +64,16 @@ fn check_links(links: &[Link], count: usize) -> Result<(), Refusal>
 // One demand at listing position `k`: which of its tests is told first in memory is decided here alone: 8, 21, 9, 3, 7.
 #[tactic(auto, unfolding(crate::specs::Check::check_demand, crate::specs::Check::then, crate::specs::DemandTest::demand_tests))]
 fn check_demand(
-    demand: &Demand,
+    demand: Demand,
     k: usize,
     slots: u16,
-    links: &[Link],
+    links: [Link; 64],
+    count: usize,
     earlier: &[u16],
 ) -> Result<(), Refusal>
-    ensures { result ≡ check_demand slots links.now earlier.now k (view_demand demand.now) }
+    ensures { result ≡ check_demand slots (take count links) earlier.now k (view_demand demand) }
 {
-    let tests = tests_of(demand, slots, links, earlier);
+    let tests = test_demand(demand, slots, links, count, earlier);
     if tests.used {
         return Err(Refusal::IdentUsed(k));
     }

@@ -20,19 +20,12 @@ pub fn test_demand(
 ) -> DemandTests
     ensures { result ≡ demand_tests slots (take count links) earlier.now (view_demand demand) }
 {
-    tests_of(&demand, slots, listed(&links, count), earlier)
-}
-
-// What each test says of a demand over these links.
-pub(crate) fn tests_of(demand: &Demand, slots: u16, links: &[Link], earlier: &[u16]) -> DemandTests
-    ensures { result ≡ demand_tests slots links.now earlier.now (view_demand demand.now) }
-{
     DemandTests {
         used: earlier.contains(&demand.ident),
         rate: rate_known(demand.asked),
-        width: width_allowed(slots, width_of(*demand)),
+        width: width_allowed(slots, width_of(demand)),
         hops: allowed_hops(demand.hops),
-        route: sound_route(demand.route(), links),
+        route: sound_route(demand.route(), listed(&links, count)),
     }
 }
 

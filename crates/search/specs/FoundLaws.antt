@@ -1,7 +1,7 @@
 -- What is found of a request made small is what the search of its problem finds, and that is what the search of the request finds.
 use Prim.Native.Nat.{ℕ, zero, suc, ◌+◌, ◌≤◌, ◌<◌}
 use Rattle.std.specs.Prelude.{Option, Some, None, is_some, Bool, ◌≡◌, refl, drop, get_or}
-use mathlib.Core.List.{List, [], ◌∷◌}
+use mathlib.Core.List.{List, [], ◌∷◌, map}
 use Rattle.std.proofs.Math.Path.{sym, ap, subst}
 use Rattle.std.proofs.Common.{◌∙◌, arith, ext_get_or, length-take-le, get_or-take, drop-cons}
 use Rattle.std.proofs.Math.ListN.{length, take}
@@ -9,7 +9,7 @@ use Rattle.theory.specs.Problem.{Problem, Row, start_in}
 use Rattle.theory.proofs.ProblemLaws.{top_nil}
 use Rattle.theory.specs.Orders.{factorial, listing, count_up}
 use Rattle.theory.proofs.ListingLaws.{listing_length, count_up-length}
-use Rattle.theory.specs.Walk.{met, walk}
+use Rattle.theory.specs.Walk.{none_met, met, walk}
 use Rattle.theory.specs.Walk as walk-specs
 use Rattle.theory.specs.Search as theory
 use Rattle.theory.proofs.SearchLaws.{search_too_narrow, search_walks, search_walk_some}
@@ -37,7 +37,15 @@ use Rattle.search.specs.Reply.{searched, outcome_by, outcome_told, answer_told}
 use Rattle.search.specs.ReplyLaws.{outcome_by_lem}
 use Rattle.search.specs.inner.Found.{searched_in, FoundFor}
 
+-- no plan is not a plan
+none_not_met : {C : Type 0} (rows : List Row) (order : List ℕ) → none_met ≡ met rows order → C
+none_not_met rows order e = absurd (let z : ◌≡◌ {A = ℕ} 0 1 = cc in omega arith)
+
 -- nothing to place, nothing to start
+nothing_started : (rows : List Row) (l : List ℕ) → take 0 l ≡ map (start_in rows) (listing 0)
+unfolding listing count_up
+nothing_started rows l = refl
+
 nothing_walked : (P : Problem) (S bound limit : ℕ) → theory.search_walk P S bound limit [] (listing 0) ≡ theory.at_once P bound []
 unfolding listing count_up theory.search_walk
 nothing_walked P S bound limit = refl

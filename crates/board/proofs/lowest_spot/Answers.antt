@@ -1,5 +1,5 @@
 use Rattle.std.proofs.Common.{◌∙◌}
-use Rattle.board.proofs.BoardLaws.{spot_placed}
+use Rattle.board.proofs.BoardLaws.{front_spot}
 use Rattle.board.proofs.lowest_spot.Goals as goal
 
 pub returns : goal.returns
@@ -7,6 +7,6 @@ returns c =
     let a = c.args in
     let near = c.beside-near in
     c.spot_below.ensures
-    ∙ spot_placed a.meets.now a.starts.now a.ends.now a.count a.width a.guard a.slots
+    ∙ front_spot a.meets.now a.starts.now a.ends.now a.count a.width a.guard a.slots
     near.result.past near.result.starts.now near.result.span c.first_above-above.result c.lowest_below.result
     (cc) near.ensures.past near.ensures.starts near.ensures.span c.first_above-above.ensures c.lowest_below.ensures

@@ -15,7 +15,7 @@ returns-then-any c =
 pub returns : goal.returns
 returns c =
     let need = c.args.need in
-    let rooms = c.args.rooms.now in
+    let tested = c.args.rooms.now in
     let any =
-    any_from_yields_List (λ (room : ℕ). ltb room need) _ _ _ c.any.ensures.ran (YieldsList-from_slice rooms cc) (λ x b q k. search (rules, tests)) in
-    rw (rooms_any need rooms, ← any, c.if-any.false)
+    any_from_yields_List (λ (room : ℕ). ltb room need) _ _ _ c.any.ensures.ran (YieldsList-from_slice tested cc) (λ x b q k. search (rules, tests)) in
+    rw (rooms_any need tested, ← any, c.if-any.false)

@@ -4,15 +4,17 @@ use native.Mathlib.Omega.{arith}
 use lib.ListN.{take, replicate}
 use Rattle.reading.specs.inner.SoFar.{DemandsSoFar}
 use Rattle.reading.specs.DemandsLaws.{used_room, demands_begin_lem, demands_finish, demands_fail, field_tagged, field_first, demand_here, demands_go_on, used_length}
-use Rattle.request.specs.declared.Demand.{Demand}
+use Rattle.request.specs.declared.Request.{Request}
+use Rattle.request.specs.Packing.{empty_request}
 use Rattle.reading.proofs.read_demands.Goals as goal
 
 pub loop-at-init : goal.loop-at-init
+unfolding empty_request
 loop-at-init c =
     let links = take c.args.link_count c.args.links in
     let s = c.args.file.now in
-    subst (λ (d : Demand). DemandsSoFar c.args.slots links s c.args.start c.args.start 0 (replicate 200 d) (replicate 200 0))
-    (sym c.empty_demand-demands.ensures) (demands_begin_lem c.args.slots links s c.args.start c.requires)
+    subst (λ (q : Request). DemandsSoFar c.args.slots links s c.args.start c.args.start 0 q.demands (replicate 200 0))
+    (sym c.empty_request.ensures) (demands_begin_lem c.args.slots links s c.args.start c.requires)
 
 pub returns-in_err-check_field : goal.returns-in_err-check_field
 returns-in_err-check_field c =

@@ -69,3 +69,10 @@ pub record Brought (order : List ℕ) (n p : ℕ) (brought : List ℕ) : Type 0 
   pub first : get_or brought n 0 ≡ get_or order p 0
   pub between : (q : ℕ) → n ≤ q → q < p → get_or brought (q + 1) 0 ≡ get_or order q 0
   pub back : (q : ℕ) → p < q → get_or brought q 0 ≡ get_or order q 0
+
+-- half way there: the entries from place p up to place at are one back, the others where they were
+pub record Shifted (order : List ℕ) (at p : ℕ) (shifted : List ℕ) : Type 0 where
+  pub long : length shifted ≡ length order
+  pub front : (q : ℕ) → q ≤ p → get_or shifted q 0 ≡ get_or order q 0
+  pub between : (q : ℕ) → p ≤ q → q < at → get_or shifted (q + 1) 0 ≡ get_or order q 0
+  pub back : (q : ℕ) → at < q → get_or shifted q 0 ≡ get_or order q 0

@@ -23,7 +23,7 @@ returns-in_err-check_demand c =
     told
     ∙ sym
     (met_refused q met.idents met.k met.invariant (whole q _ c.well_formed.0).all_demands _ (omega (arith, n)) (omega (arith, n))
-    (rw (← c.listed-links.ensures, ← get_or-take c.min-asked.result q.demands met.k no_entry few)
+    (rw (← get_or-take c.min-asked.result q.demands met.k no_entry few)
     (sym c.check_demand.ensures ∙ c.in_err-check_demand.was)))
 
 pub loop-k-preserved : goal.loop-k-preserved
@@ -36,7 +36,7 @@ loop-k-preserved c =
     let here = get_or-take c.min-asked.result q.demands met.k no_entry few in
     rw here
     (met_on q met.idents met.k met.invariant (whole q _ c.well_formed.0).all_demands (omega (arith, n)) (omega (arith, n))
-    (rw (← c.listed-links.ensures, ← here) (sym c.check_demand.ensures ∙ c.in_ok-check_demand.was)))
+    (rw (← here) (sym c.check_demand.ensures ∙ c.in_ok-check_demand.was)))
 
 pub returns-then-request-gt-MOST_DEMANDS : goal.returns-then-request-gt-MOST_DEMANDS
 returns-then-request-gt-MOST_DEMANDS c =
