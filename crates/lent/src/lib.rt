@@ -32,6 +32,8 @@ pub fn check_rooms(need: usize, rooms: &[usize]) -> Result<(), Refusal>
 pub fn write_front(entries: &[u16], out: &mut [u16])
     ensures { out.new ≡ over (take (length out.old) entries.now) out.old }
 {
+    // Kept as it is: with `copy_from_slice` a program that leaves out each second entry is a loop of another shape, and would be refused
+    // for that alone.
     for k in 0..entries.len().min(out.len()) {
         out[k] = entries[k];
     }

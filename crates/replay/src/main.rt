@@ -89,6 +89,7 @@ fn read_body<'a>(mut stdin: Stdin, length: usize, room: &'a mut [u8]) -> Result<
 // terminal can tell it, is followed by another read.
 fn skip(stdin: Stdin, count: u64) -> Result<(), Trouble> {
     let mut left = count;
+    // Kept as it is: how many parts there are is not known before they are read.
     while left > 0 {
         let got = io::copy(&mut stdin.take(left.min(4096)), &mut io::sink())?;
         if got == 0 {

@@ -40,7 +40,7 @@ fn bring(order: &mut [u16; 20], placed: usize, at: usize)
     ensures { Brought order.old placed at order.new }
 {
     let first = order[at];
-    // Place by place: `rotate_right` has the archive for C ask for `memmove`, which it takes from no one.
+    // Kept as it is: place by place; with `rotate_right` the archive for C asks its host for `memmove`, which it needs for nothing else.
     for p in (placed..at).rev() {
         order[p + 1] = order[p];
     }
